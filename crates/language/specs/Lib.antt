@@ -1,0 +1,15 @@
+-- L2, the language of the formulas: what an expression is, how it steps, what type it has, and what is true of that.
+-- `Promises` is the page to start from. Definitions and proofs stand in different files: a file of definitions is believed by reading
+-- it beside its section of the lecture notes, a file of proofs is checked.
+pub mod Expression
+pub mod Integers
+pub mod Substitution
+pub mod SmallStep
+pub mod Move
+pub mod Ty
+pub mod TyLaws
+pub mod Environment
+pub mod Typing
+pub mod Principal
+pub mod WrittenForm
+pub mod Unification

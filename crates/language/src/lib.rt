@@ -1,0 +1,1 @@
+// L2 as a theory: its definitions and theorems stand in specs/. There is no code here.
