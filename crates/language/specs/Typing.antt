@@ -1,8 +1,8 @@
 -- The typing rules of L2 (lecture notes, section 9, Definition 14; formula sheet, section 5, whose rule names these are).
 use mathlib.Core.Path.{_≡_}
 use Rattle.language.specs.Expression.{Name, Operator, plus, minus, times, divide, modulo, less, greater, at-most, at-least, equal, Constant, unit-element, boolean, integer, operator, Exp, constant, name, app, if-then-else, lambda, let-in, rec}
-use Rattle.language.specs.Ty.{Ty, unit, bool, int, _⇒_}
-use Rattle.language.specs.Environment.{Env, bind, Find}
+use Rattle.language.specs.Ty.{Ty, unit, bool, int, _⇒_, Subst, apply}
+use Rattle.language.specs.Environment.{Env, empty, bind, Find}
 
 -- (AOP) and (ROP): what an operator gives, after two integers.
 abbrev pub gives : Operator → Ty
@@ -33,3 +33,8 @@ pub data Has : Env Ty → Exp → Ty → Type 0 where
   LET : {Γ : Env Ty} {x : Name} {e₁ e₂ : Exp} {τ τ′ : Ty} → Has Γ e₁ τ → Has (bind Γ x τ) e₂ τ′ → Has Γ (let-in x e₁ e₂) τ′
   ABSTR′ : {Γ : Env Ty} {x : Name} {e : Exp} {τ τ′ : Ty} → Has (bind Γ x τ) e τ′ → Has Γ (lambda x e) (τ ⇒ τ′)
   REC′ : {Γ : Env Ty} {x : Name} {e : Exp} {τ : Ty} → Has (bind Γ x τ) e τ → Has Γ (rec x e) τ
+
+-- Definition 24: `applyEnv s Γ` is Γ s, each entry id : τ replaced by id : τ s.
+unfoldable pub applyEnv : Subst → Env Ty → Env Ty
+applyEnv s empty = empty
+applyEnv s (bind Γ x τ) = bind (applyEnv s Γ) x (apply s τ)

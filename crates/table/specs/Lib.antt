@@ -5,3 +5,5 @@ pub mod Scope
 pub mod Refusals
 pub mod ExpressionOf
 pub mod Tree
+pub mod Reading
+pub mod RuleLaws
