@@ -22,3 +22,7 @@ pub mod Principal
 pub mod WrittenForm
 pub mod WrittenFormLaws
 pub mod Unification
+pub mod MostGeneral
+pub mod Elimination
+pub mod UnificationCorrect
+pub mod UnificationExamples

@@ -1,4 +1,6 @@
--- The formula table: its nodes, its refusals, what its names mean, and the expression that it stands for.
+-- The formula table: its nodes, its refusals, what its names mean, and the expression that it stands for. `Promises` is the page to
+-- start from.
+-- Definitions.
 pub mod Node
 pub mod Walk
 pub mod Scope
@@ -6,4 +8,18 @@ pub mod Refusals
 pub mod ExpressionOf
 pub mod Tree
 pub mod Reading
+-- A checked table as a tree.
+pub mod FirstFrom
+pub mod TreeLaws
+pub mod ExpressionLaws
+pub mod Times
+pub mod Fitting
+pub mod Accepted
+pub mod ClosedFormula
+-- What the code computes.
+pub mod SearchLoop
+pub mod Parents
+pub mod Lookup
+pub mod Stages
 pub mod RuleLaws
+pub mod NodeLaws

@@ -1,9 +1,21 @@
--- A node as the code reads it: four words in a struct, and what it computes from them.
-use Prim.Native.Nat.{ℕ, _+_, _*_}
-use mathlib.Core.Bool.{Bool}
-use mathlib.Core.List.{List}
-use Rattle.table.specs.Node.{Node, wordAt, nodeOf}
+-- The table as the code reads it: a node in four words, and what a walk sees of it.
+use Prim.Native.Nat.{ℕ, _+_, _*_, _<_}
+use mathlib.Core.Bool.{Bool, true, false, not, cond, _&&_}
+use mathlib.Core.List.{List, []}
+use mathlib.Core.Option.{Option, none, some}
+use lib.Dec.{eqb, ltb}
+use Rattle.language.specs.Expression.{Name}
+use Rattle.table.specs.Node.{Node, Nodes, Field, wordAt, nodeOf, nodeAt}
+use Rattle.table.specs.Walk.{fieldHolding, climbFrom}
+use Rattle.table.specs.Scope.{bindsIn, enter, isNamed, firstNamed, binderOf}
+use Rattle.table.specs.Refusals.{countOf, timesBelow}
 use Rattle.table.specs.declared.NodeWords.{NodeWords}
+use Rattle.table.specs.declared.Met.{Met}
+use Rattle.table.specs.declared.Met.the-variants.{Elsewhere, Above, Binding}
+use Rattle.table.specs.declared.Bound.{Bound}
+use Rattle.table.specs.declared.Bound.the-variants.{At, Nowhere}
+
+-- ---- A node
 
 abbrev pub wordsAt : List ℕ → ℕ → NodeWords
 wordsAt words k =
@@ -11,7 +23,55 @@ wordsAt words k =
       kind = wordAt words (4 * k);
       a = wordAt words (4 * k + 1);
       b = wordAt words (4 * k + 2);
-      c = wordAt words (4 * k + 3) }
+      c = wordAt words (4 * k + 3);
+    }
 
 abbrev pub nodeIn : NodeWords → Node
 nodeIn w = nodeOf (w .kind) (w .a) (w .b) (w .c)
+
+-- ---- Parents
+
+-- Parents have smaller numbers, so it is enough to look for them below the node.
+abbrev pub misplacedBelow : Nodes → ℕ → Bool
+misplacedBelow nd k = not (eqb k 0) && not (eqb (timesBelow nd k k) 1)
+
+-- ---- Binders
+
+-- A node met on the walk from k in search of the name x: no parent of the current node, its parent, or its parent that binds x there.
+abbrev pub metAs : Bool → Met
+metAs true = Binding
+metAs false = Above
+
+abbrev pub metIn : Option Field → Name → Node → Met
+metIn none x node = Elsewhere
+metIn (some f) x node = metAs (bindsIn node f && isNamed x node)
+
+abbrev pub met : Node → Name → ℕ → Met
+met node x current = metIn (fieldHolding current node) x node
+
+-- The same where the child and the name have been compared.
+abbrev pub bindingIf : Bool → Bool → Met
+bindingIf true named = metAs named
+bindingIf false named = Elsewhere
+
+abbrev pub aboveIf : Bool → Bool → Bool → Met
+aboveIf true q s = Above
+aboveIf false true s = Above
+aboveIf false false true = Above
+aboveIf false false false = Elsewhere
+
+-- What the walk from `current` finds among the nodes below p.
+abbrev pub foundBelow : Nodes → Name → ℕ → ℕ → Option ℕ
+foundBelow nd x current p = firstNamed nd x (climbFrom [] (enter nd) nd current p)
+
+abbrev pub binderAnswer : Option ℕ → Bound
+binderAnswer none = Nowhere
+binderAnswer (some b) = At b
+
+abbrev pub isNowhere : Bound → Bool
+isNowhere (At b) = false
+isNowhere Nowhere = true
+
+-- The binder of node k of a table. A node that is no name or is not there has none.
+abbrev pub binderIn : List ℕ → ℕ → Bound
+binderIn words k = binderAnswer (cond (ltb k (countOf words)) (binderOf (nodeAt words) k) none)

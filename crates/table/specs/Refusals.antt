@@ -8,13 +8,17 @@ use lib.ListN.{length, getD}
 use Rattle.table.specs.Node.{Node, Nodes, Field, field-a, field-b, field-c, child, wordAt, nodeAt}
 use Rattle.table.specs.Walk.{holds}
 use Rattle.table.specs.Scope.{nameOf, binderOf}
-use Rattle.table.specs.declared.Check.{Check}
-use Rattle.table.specs.declared.Check.the-variants.{Nodes as Accepted, Refused}
+use Rattle.table.specs.declared.Verdict.{Verdict}
+use Rattle.table.specs.declared.Verdict.the-variants.{Nodes as Accepted, Refused}
 
 -- ---- Code 1: the word count is 0, no multiple of 4, or above 2,048
 
 abbrev pub wrongCount : ℕ → Bool
 wrongCount l = eqb l 0 || not (eqb (l % 4) 0) || ltb 2048 l
+
+-- Its place is 0.
+abbrev pub miscount : ℕ → Option ℕ
+miscount l = cond (wrongCount l) (some 0) none
 
 abbrev pub countOf : List ℕ → ℕ
 countOf words = length words / 4
@@ -85,16 +89,16 @@ unfoldable pub firstFrom : (ℕ → Bool) → ℕ → ℕ → Option ℕ
 firstFrom bad zero at = none
 firstFrom bad (suc count) at = let later = firstFrom bad count (suc at) in cond (bad at) (some at) later
 
-abbrev pub refuseAt : ℕ → Option ℕ → Check → Check
+abbrev pub refuseAt : ℕ → Option ℕ → Verdict → Verdict
 refuseAt code none otherwise = otherwise
 refuseAt code (some k) otherwise = Refused code k
 
-abbrev pub checkNodes : List ℕ → Nodes → ℕ → Check
+abbrev pub checkNodes : List ℕ → Nodes → ℕ → Verdict
 checkNodes words nd n =
     refuseAt 2 (firstFrom (λ k. not (fits words n k)) n 0)
     (refuseAt 3 (firstFrom (misplaced nd n) n 0)
     (refuseAt 4 (firstFrom (unbound nd) n 0)
     (Accepted n)))
 
-unfoldable pub checkOf : List ℕ → Check
-checkOf words = cond (wrongCount (length words)) (Refused 1 0) (checkNodes words (nodeAt words) (countOf words))
+unfoldable pub checkOf : List ℕ → Verdict
+checkOf words = refuseAt 1 (miscount (length words)) (checkNodes words (nodeAt words) (countOf words))

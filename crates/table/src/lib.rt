@@ -4,12 +4,12 @@ ghost use mathlib.Core.Path.{_≡_};
 ghost use mathlib.Core.Bool.{not, _&&_};
 ghost use lib.ListN.{length};
 ghost use Rattle.table.specs.Node.{nodeAt};
-ghost use Rattle.table.specs.Scope.{binderOf};
-ghost use Rattle.table.specs.Refusals.{fits, fitsRule, isChild, timesIn, unbound, firstFrom, refuseAt, checkOf};
-ghost use Rattle.table.specs.Reading.{wordsAt, nodeIn};
+ghost use Rattle.table.specs.Scope.{scope, firstNamed};
+ghost use Rattle.table.specs.Refusals.{miscount, countOf, fits, fitsRule, isChild, once, timesIn, unbound, firstFrom, refuseAt, checkOf};
+ghost use Rattle.table.specs.Reading.{wordsAt, nodeIn, misplacedBelow, aboveIf, bindingIf, met, binderAnswer, isNowhere, binderIn};
 
 // What the check of a table answers.
-pub enum Check {
+pub enum Verdict {
     // The table is in order, with so many nodes.
     Nodes(u32),
     // The first refusal in order, with the smallest place.
@@ -17,7 +17,7 @@ pub enum Check {
 }
 
 // Where a name is bound.
-pub enum Binder {
+pub enum Bound {
     At(u32),
     Nowhere,
 }
@@ -95,5 +95,258 @@ fn keeps_rule(n: u32, k: u32, w: NodeWords) -> bool
             _ => false,
         },
         _ => false,
+    }
+}
+
+// Code 1, or the node count.
+fn count(words: &[u32]) -> Verdict
+    ensures { λ r. ⌜ r ≡ refuseAt 1 (miscount (length (now (words .entry)))) (Verdict.Nodes (countOf (now (words .entry)))) ⌝ }
+{
+    let l = words.len();
+    match l {
+        1..=2048 => {
+            if l % 4 == 0 {
+                Verdict::Nodes((l / 4) as u32)
+            } else {
+                Verdict::Refused { code: 1, place: 0 }
+            }
+        }
+        _ => Verdict::Refused { code: 1, place: 0 },
+    }
+}
+
+fn breaks_rule(words: &[u32], n: u32, k: u32) -> bool
+    requires { ⌜ 4 * k + 4 ≤ length (now words) ⌝ }
+    ensures { λ r. ⌜ r ≡ not (fits (now (words .entry)) n k) ⌝ }
+{
+    !keeps_rule(n, k, node_at(words, k))
+}
+
+// Code 2: the smallest node that breaks the rule of its kind.
+fn fields(words: &[u32], n: u32) -> Verdict
+    requires { ⌜ 4 * n ≤ length (now words) ⌝ }
+    ensures { λ r. ⌜ r ≡ refuseAt 2 (firstFrom (λ k. not (fits (now (words .entry)) n k)) n 0) (Verdict.Nodes n) ⌝ }
+{
+    let mut k: u32 = 0;
+    while k < n {
+        if breaks_rule(words, n, k) {
+            return Verdict::Refused { code: 2, place: k };
+        }
+        k += 1;
+    }
+    Verdict::Nodes(n)
+}
+
+fn one_if(t: bool) -> u32
+    ensures { λ r. ⌜ (r ≡ once t) × (r ≤ 1) ⌝ }
+{
+    if t { 1 } else { 0 }
+}
+
+// In how many fields of a node k stands as a child.
+fn times_in(w: NodeWords, k: u32) -> u32
+    ensures { λ r. ⌜ (r ≡ timesIn (nodeIn w) k) × (r ≤ 3) ⌝ }
+{
+    let kind = w.kind;
+    let a = w.a;
+    let b = w.b;
+    let c = w.c;
+    match kind {
+        5 => one_if(a == k) + one_if(b == k),
+        6 => one_if(a == k) + one_if(b == k) + one_if(c == k),
+        7 | 9 => one_if(b == k),
+        8 => one_if(b == k) + one_if(c == k),
+        _ => 0,
+    }
+}
+
+fn times_at(words: &[u32], p: u32, k: u32) -> u32
+    requires { ⌜ 4 * p + 4 ≤ length (now words) ⌝ }
+    ensures { λ r. ⌜ (r ≡ timesIn (nodeAt (now (words .entry)) p) k) × (r ≤ 3) ⌝ }
+{
+    times_in(node_at(words, p), k)
+}
+
+// Code 3: the smallest node other than 0 that is not a child exactly once.
+fn parents(words: &[u32], n: u32) -> Verdict
+    requires { ⌜ (4 * n ≤ length (now words)) × (0 < n) ⌝ }
+    ensures { λ r. ⌜ r ≡ refuseAt 3 (firstFrom (misplacedBelow (nodeAt (now (words .entry)))) n 0) (Verdict.Nodes n) ⌝ }
+{
+    let mut k: u32 = 1;
+    'nodes: loop {
+        if n <= k {
+            break 'nodes Verdict::Nodes(n);
+        }
+        let mut times: u32 = 0;
+        let mut p: u32 = 0;
+        while p < k {
+            times += times_at(words, p, k);
+            if 1 < times {
+                break 'nodes Verdict::Refused { code: 3, place: k };
+            }
+            p += 1;
+        }
+        if times == 0 {
+            break 'nodes Verdict::Refused { code: 3, place: k };
+        }
+        k += 1;
+    }
+}
+
+// A node that the walk in search of a binder meets.
+enum Met {
+    // It is no parent of the current node.
+    Elsewhere,
+    // It is the parent, and does not bind the name there.
+    Above,
+    // It is the parent, and binds the name there.
+    Binding,
+}
+
+fn above(p: bool, q: bool, s: bool) -> Met
+    ensures { λ r. ⌜ r ≡ aboveIf p q s ⌝ }
+{
+    if p {
+        return Met::Above;
+    }
+    if q {
+        return Met::Above;
+    }
+    if s { Met::Above } else { Met::Elsewhere }
+}
+
+fn binding(inside: bool, named: bool) -> Met
+    ensures { λ r. ⌜ r ≡ bindingIf inside named ⌝ }
+{
+    if inside {
+        if named { Met::Binding } else { Met::Above }
+    } else {
+        Met::Elsewhere
+    }
+}
+
+fn meet(w: NodeWords, x: u32, current: u32) -> Met
+    ensures { λ r. ⌜ r ≡ met (nodeIn w) x current ⌝ }
+{
+    let kind = w.kind;
+    let a = w.a;
+    let b = w.b;
+    let c = w.c;
+    match kind {
+        5 => above(a == current, b == current, false),
+        6 => above(a == current, b == current, c == current),
+        7 | 9 => binding(b == current, a == x),
+        8 => {
+            if b == current {
+                Met::Above
+            } else {
+                binding(c == current, a == x)
+            }
+        }
+        _ => Met::Elsewhere,
+    }
+}
+
+fn meet_at(words: &[u32], p: u32, x: u32, current: u32) -> Met
+    requires { ⌜ 4 * p + 4 ≤ length (now words) ⌝ }
+    ensures { λ r. ⌜ r ≡ met (nodeAt (now (words .entry)) p) x current ⌝ }
+{
+    meet(node_at(words, p), x, current)
+}
+
+// The binder of the name x at node k.
+fn lookup(words: &[u32], x: u32, k: u32) -> Bound
+    requires { ⌜ 4 * k ≤ length (now words) ⌝ }
+    ensures { λ r. ⌜ r ≡ binderAnswer (firstNamed (nodeAt (now (words .entry))) x (scope (nodeAt (now (words .entry))) k)) ⌝ }
+{
+    let mut current = k;
+    let mut p = k;
+    while 0 < p {
+        p -= 1;
+        let met = meet_at(words, p, x, current);
+        match met {
+            Met::Binding => {
+                return Bound::At(p);
+            }
+            Met::Above => {
+                current = p;
+            }
+            Met::Elsewhere => {}
+        }
+    }
+    Bound::Nowhere
+}
+
+fn is_nowhere(b: Bound) -> bool
+    ensures { λ r. ⌜ r ≡ isNowhere b ⌝ }
+{
+    match b {
+        Bound::At(_) => false,
+        Bound::Nowhere => true,
+    }
+}
+
+// Is node k a name without a binder?
+fn is_unbound(words: &[u32], k: u32) -> bool
+    requires { ⌜ 4 * k + 4 ≤ length (now words) ⌝ }
+    ensures { λ r. ⌜ r ≡ unbound (nodeAt (now (words .entry))) k ⌝ }
+{
+    let w = node_at(words, k);
+    let kind = w.kind;
+    if kind == 4 {
+        is_nowhere(lookup(words, w.a, k))
+    } else {
+        false
+    }
+}
+
+// Code 4: the smallest name without a binder.
+fn names(words: &[u32], n: u32) -> Verdict
+    requires { ⌜ 4 * n ≤ length (now words) ⌝ }
+    ensures { λ r. ⌜ r ≡ refuseAt 4 (firstFrom (unbound (nodeAt (now (words .entry)))) n 0) (Verdict.Nodes n) ⌝ }
+{
+    let mut k: u32 = 0;
+    while k < n {
+        if is_unbound(words, k) {
+            return Verdict::Refused { code: 4, place: k };
+        }
+        k += 1;
+    }
+    Verdict::Nodes(n)
+}
+
+// The check of a table: the first refusal in order, or the node count.
+pub fn check(words: &[u32]) -> Verdict
+    ensures { λ r. ⌜ r ≡ checkOf (now (words .entry)) ⌝ }
+{
+    let counted = count(words);
+    let Verdict::Nodes(n) = counted else {
+        return counted;
+    };
+    let fielded = fields(words, n);
+    let Verdict::Nodes(_) = fielded else {
+        return fielded;
+    };
+    let rooted = parents(words, n);
+    let Verdict::Nodes(_) = rooted else {
+        return rooted;
+    };
+    names(words, n)
+}
+
+// The binder of the name at node k.
+pub fn binder(words: &[u32], k: u32) -> Bound
+    ensures { λ r. ⌜ r ≡ binderIn (now (words .entry)) k ⌝ }
+{
+    if (k as usize) < words.len() / 4 {
+        let w = node_at(words, k);
+        let kind = w.kind;
+        if kind == 4 {
+            lookup(words, w.a, k)
+        } else {
+            Bound::Nowhere
+        }
+    } else {
+        Bound::Nowhere
     }
 }

@@ -1,0 +1,52 @@
+-- The walk in search of a binder, one node at a time.
+use Prim.Native.Nat.{ℕ, zero, suc, _-_, _<_}
+use mathlib.Core.Path.{_≡_, refl, sym, _∙_, ap}
+use mathlib.Core.Bool.{Bool, true, false, not, cond, _&&_}
+use mathlib.Core.List.{[], _∷_}
+use mathlib.Core.Option.{Option, none, some}
+use native.Mathlib.Omega.{arith}
+use Rattle.language.specs.Expression.{Name}
+use Rattle.table.specs.Node.{Nodes, Field}
+use Rattle.table.specs.Walk.{fieldHolding, climbFrom, atParent}
+use Rattle.table.specs.Scope.{bindsIn, enter, isNamed, firstNamed}
+use Rattle.table.specs.Refusals.{isSome}
+use Rattle.table.specs.Reading.{metAs, metIn, met, foundBelow, binderAnswer, isNowhere}
+use Rattle.table.specs.declared.Met.{Met}
+use Rattle.table.specs.declared.Met.the-variants.{Elsewhere, Above, Binding}
+
+module _ (nd : Nodes) (x : Name) where
+  -- What the walk from k finds, by how it meets node p.
+  abbrev pub onwards : Met → ℕ → ℕ → Option ℕ
+  onwards Elsewhere k p = foundBelow nd x k p
+  onwards Above k p = foundBelow nd x p p
+  onwards Binding k p = some p
+
+  pub found-nothing : (k : ℕ) → foundBelow nd x k 0 ≡ none
+  unfolding climbFrom firstNamed
+  found-nothing k = refl
+
+  entered : (binds : Bool) (named : Bool) (k p : ℕ) → isNamed x (nd p) ≡ named →
+      firstNamed nd x (cond binds (p ∷ climbFrom [] (enter nd) nd p p) (climbFrom [] (enter nd) nd p p)) ≡ onwards (metAs (binds && named)) k p
+  unfolding firstNamed
+  entered false named k p e = refl
+  entered true true k p e = rw e
+  entered true false k p e = rw e
+
+  found-next : (k p : ℕ) → foundBelow nd x k (suc p) ≡ onwards (met (nd p) x k) k p
+  unfolding climbFrom firstNamed
+  found-next k p = go (fieldHolding k (nd p))
+    where
+      go : (f : Option Field) → firstNamed nd x (atParent f (climbFrom [] (enter nd) nd k p) (λ f. enter nd p f (climbFrom [] (enter nd) nd p p))) ≡ onwards (metIn f x (nd p)) k p
+      go none = refl
+      go (some f) = entered (bindsIn (nd p) f) (isNamed x (nd p)) k p refl
+
+  -- The same, from p down to p - 1, as a loop goes.
+  pub found-down : (k p : ℕ) → 0 < p → (m : Met) → met (nd (p - 1)) x k ≡ m → foundBelow nd x k p ≡ onwards m k (p - 1)
+  found-down k p h m e =
+      let down : p ≡ suc (p - 1) = omega arith in
+      ap (foundBelow nd x k) down ∙ found-next k (p - 1) ∙ ap (λ m. onwards m k (p - 1)) e
+
+-- A name that is bound nowhere has no binder.
+pub nowhere-is-none : (o : Option ℕ) → isNowhere (binderAnswer o) ≡ not (isSome o)
+nowhere-is-none none = refl
+nowhere-is-none (some b) = refl

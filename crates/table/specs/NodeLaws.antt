@@ -1,0 +1,116 @@
+-- A node read from its words, kind by kind, where the code treats several kinds alike.
+use Prim.Native.Nat.{ℕ, zero, suc, _+_, _*_}
+use mathlib.Core.Path.{_≡_, refl}
+use mathlib.Core.Logic.{_⊎_, inl, inr}
+use mathlib.Core.Bool.{Bool, true, false, cond}
+use mathlib.Core.List.{List}
+use mathlib.Core.Option.{none, some}
+use native.Mathlib.Omega.{arith}
+use lib.Dec.{eqb}
+use Rattle.language.specs.Expression.{Constant, Name}
+use Rattle.table.specs.Node.{Node, constant-node, name-node, application-node, if-node, lambda-node, let-node, rec-node, Field, field-a, field-b, field-c, wordAt, nodeOf, nodeAt}
+use Rattle.table.specs.Scope.{bindsIn, isNamed, nameOf}
+use Rattle.table.specs.Refusals.{once, timesIn}
+use Rattle.table.specs.Reading.{metIn, met, aboveIf, bindingIf}
+use Rattle.table.specs.declared.Met.the-variants.{Elsewhere, Above}
+
+-- ---- Nodes without children
+
+pub data Leaf : Node → Type 0 where
+  a-constant : {k : Constant} → Leaf (constant-node k)
+  a-name : {x : Name} → Leaf (name-node x)
+
+-- Kinds 5 to 9 have children, all others are leaves.
+pub leaf : (kind a b c : ℕ) → (kind ≡ 5 → ⊥) → (kind ≡ 6 → ⊥) → ((kind ≡ 7) ⊎ (kind ≡ 9) → ⊥) → (kind ≡ 8 → ⊥) → Leaf (nodeOf kind a b c)
+unfolding nodeOf
+leaf zero a b c not5 not6 not79 not8 = a-constant
+leaf (suc zero) a b c not5 not6 not79 not8 = a-constant
+leaf (suc (suc zero)) a b c not5 not6 not79 not8 = a-constant
+leaf (suc (suc (suc zero))) a b c not5 not6 not79 not8 = a-constant
+leaf (suc (suc (suc (suc zero)))) a b c not5 not6 not79 not8 = a-name
+leaf (suc (suc (suc (suc (suc zero))))) a b c not5 not6 not79 not8 = absurd (not5 refl)
+leaf (suc (suc (suc (suc (suc (suc zero)))))) a b c not5 not6 not79 not8 = absurd (not6 refl)
+leaf (suc (suc (suc (suc (suc (suc (suc zero))))))) a b c not5 not6 not79 not8 = absurd (not79 (inl refl))
+leaf (suc (suc (suc (suc (suc (suc (suc (suc zero)))))))) a b c not5 not6 not79 not8 = absurd (not8 refl)
+leaf (suc (suc (suc (suc (suc (suc (suc (suc (suc zero))))))))) a b c not5 not6 not79 not8 = absurd (not79 (inr refl))
+leaf (suc (suc (suc (suc (suc (suc (suc (suc (suc (suc k)))))))))) a b c not5 not6 not79 not8 = a-constant
+
+pub leaf-holds-nothing : {node : Node} → Leaf node → (k : ℕ) → timesIn node k ≡ 0
+leaf-holds-nothing a-constant k = refl
+leaf-holds-nothing a-name k = refl
+
+pub leaf-is-no-parent : {node : Node} → Leaf node → (x k : ℕ) → met node x k ≡ Elsewhere
+leaf-is-no-parent a-constant x k = refl
+leaf-is-no-parent a-name x k = refl
+
+-- ---- Kinds with children
+
+module _ (kind a b c k : ℕ) where
+  -- A lambda and a rec have one child, in field b.
+  pub one-child : (kind ≡ 7) ⊎ (kind ≡ 9) → timesIn (nodeOf kind a b c) k ≡ once (eqb b k)
+  unfolding nodeOf
+  one-child (inl e) = rw e (omega arith)
+  one-child (inr e) = rw e (omega arith)
+
+  module _ (x : Name) where
+    -- They bind their name there.
+    met-lambda-or-rec : (t named : Bool) (node : Node) → bindsIn node field-b ≡ true → isNamed x node ≡ named → metIn (cond t (some field-b) none) x node ≡ bindingIf t named
+    met-lambda-or-rec true named node binds is = rw (binds, is)
+    met-lambda-or-rec false named node binds is = refl
+
+    pub lambda-or-rec-met : (kind ≡ 7) ⊎ (kind ≡ 9) → met (nodeOf kind a b c) x k ≡ bindingIf (eqb b k) (eqb a x)
+    unfolding nodeOf
+    lambda-or-rec-met (inl e) = rw e (met-lambda-or-rec (eqb b k) (eqb a x) (lambda-node a b) refl refl)
+    lambda-or-rec-met (inr e) = rw e (met-lambda-or-rec (eqb b k) (eqb a x) (rec-node a b) refl refl)
+
+    -- An application and an if bind nothing.
+    binds-nowhere : (node : Node) → ((f : Field) → bindsIn node f ≡ false) → (p q s : Bool) →
+        metIn (cond p (some field-a) (cond q (some field-b) (cond s (some field-c) none))) x node ≡ aboveIf p q s
+    binds-nowhere node nothing true q s = rw (nothing field-a)
+    binds-nowhere node nothing false true s = rw (nothing field-b)
+    binds-nowhere node nothing false false true = rw (nothing field-c)
+    binds-nowhere node nothing false false false = refl
+
+    pub application-met : kind ≡ 5 → met (nodeOf kind a b c) x k ≡ aboveIf (eqb a k) (eqb b k) false
+    unfolding nodeOf
+    application-met e = rw e (binds-nowhere (application-node a b) (λ f. refl) (eqb a k) (eqb b k) false)
+
+    pub if-met : kind ≡ 6 → met (nodeOf kind a b c) x k ≡ aboveIf (eqb a k) (eqb b k) (eqb c k)
+    unfolding nodeOf
+    if-met e = rw e (binds-nowhere (if-node a b c) (λ f. refl) (eqb a k) (eqb b k) (eqb c k))
+
+    -- A let binds in field c, and field b is looked at first.
+    pub let-met : kind ≡ 8 → met (nodeOf kind a b c) x k ≡ cond (eqb b k) Above (bindingIf (eqb c k) (eqb a x))
+    unfolding nodeOf
+    let-met e = rw e (go (eqb b k) (eqb c k))
+      where
+        go : (p q : Bool) → metIn (cond p (some field-b) (cond q (some field-c) none)) x (let-node a b c) ≡ cond p Above (bindingIf q (eqb a x))
+        go true q = refl
+        go false true = refl
+        go false false = refl
+
+-- ---- Names
+
+-- Only kind 4 is a name.
+no-name : (kind a b c : ℕ) → (kind ≡ 4 → ⊥) → nameOf (nodeOf kind a b c) ≡ none
+unfolding nodeOf
+no-name zero a b c not4 = refl
+no-name (suc zero) a b c not4 = refl
+no-name (suc (suc zero)) a b c not4 = refl
+no-name (suc (suc (suc zero))) a b c not4 = refl
+no-name (suc (suc (suc (suc zero)))) a b c not4 = absurd (not4 refl)
+no-name (suc (suc (suc (suc (suc zero))))) a b c not4 = refl
+no-name (suc (suc (suc (suc (suc (suc zero)))))) a b c not4 = refl
+no-name (suc (suc (suc (suc (suc (suc (suc zero))))))) a b c not4 = refl
+no-name (suc (suc (suc (suc (suc (suc (suc (suc zero)))))))) a b c not4 = refl
+no-name (suc (suc (suc (suc (suc (suc (suc (suc (suc zero))))))))) a b c not4 = refl
+no-name (suc (suc (suc (suc (suc (suc (suc (suc (suc (suc k)))))))))) a b c not4 = refl
+
+module _ (words : List ℕ) (k : ℕ) where
+  pub read-name : wordAt words (4 * k) ≡ 4 → nodeAt words k ≡ name-node (wordAt words (4 * k + 1))
+  unfolding nodeAt nodeOf
+  read-name e = rw e
+
+  pub read-no-name : (wordAt words (4 * k) ≡ 4 → ⊥) → nameOf (nodeAt words k) ≡ none
+  unfolding nodeAt
+  read-no-name not4 = no-name (wordAt words (4 * k)) (wordAt words (4 * k + 1)) (wordAt words (4 * k + 2)) (wordAt words (4 * k + 3)) not4
