@@ -1,32 +1,22 @@
-use Rattle.table.specs.Stages.{count-halts, counted-nodes, after-count, fields-halt, after-fields, parents-halt, after-parents}
+-- `table::check` meets its contract: the stages in order, each with what the ones before it handed on.
 use mathlib.Core.Path.{_∙_, sym}
 use borrow.Author.Needs.{needs}
+use Rattle.table.specs.Stages.{count-halts, counted-nodes, after-count, fields-halt, after-fields, parents-halt, after-parents}
 use Rattle.table.proofs.check.Statement.{statement}
 use Rattle.table.proofs.check.Tie as tie
-use Rattle.table.proofs.check.Reads as reads
-use Rattle.table.proofs.check.Lts as lts
-use Rattle.table.proofs.count.Reads as count-reads
-use Rattle.table.proofs.fields.Reads as fields-reads
-use Rattle.table.proofs.names.Reads as names-reads
-use Rattle.table.proofs.parents.Reads as parents-reads
 
--- src/lib.rt:314:9
 count-requires : tie.Need-count-requires
 count-requires c κs = search needs
 
--- src/lib.rt:315:24
 enum-known-counted : tie.Need-enum-known-counted
 enum-known-counted c = search needs
 
--- src/lib.rt:316:9
 enum-told : tie.Need-enum-told
 enum-told c = search needs
 
--- src/lib.rt:316:9
 returns : tie.Need-returns
 returns c = count-halts (c .before .before .before .before .args .words .now) (c .before .before .count .ensures) (c .enum-told .given .1)
 
--- src/lib.rt:318:9
 fields-requires : tie.Need-fields-requires
 fields-requires c κs =
     let words = c .before .before .before .before .before .args .words .now in
@@ -36,18 +26,15 @@ fields-requires c κs =
 enum-told-2 : tie.Need-enum-told-2
 enum-told-2 c = search needs
 
--- src/lib.rt:320:9
 enum-told-3 : tie.Need-enum-told-3
 enum-told-3 c = search needs
 
--- src/lib.rt:320:9
 returns-2 : tie.Need-returns-2
 returns-2 c =
     let words = c .before .before .before .before .before .before .before .before .args .words .now in
     let n = c .before .before .before .before .counted .given .0 .0 in
     fields-halt words n (after-count words n (c .before .before .before .before .before .before .count .ensures) (c .before .before .before .before .counted .given .1)) (c .before .before .fields .ensures) (c .enum-told3 .given .1)
 
--- src/lib.rt:322:9
 parents-requires : tie.Need-parents-requires
 parents-requires c κs =
     let words = c .before .before .before .before .before .before .before .before .args .words .now in
@@ -57,11 +44,9 @@ parents-requires c κs =
 enum-told-4 : tie.Need-enum-told-4
 enum-told-4 c = search needs
 
--- src/lib.rt:324:9
 enum-told-5 : tie.Need-enum-told-5
 enum-told-5 c = search needs
 
--- src/lib.rt:324:9
 returns-3 : tie.Need-returns-3
 returns-3 c =
     let words = c .before .before .before .before .before .before .before .before .before .before .before .args .words .now in
@@ -69,14 +54,12 @@ returns-3 c =
     let fitted = after-fields words n (after-count words n (c .before .before .before .before .before .before .before .before .before .count .ensures) (c .before .before .before .before .before .before .before .counted .given .1)) (c .before .before .before .before .before .fields .ensures) (c .before .before .before .enum-told2 .given .1) in
     parents-halt words n fitted (c .before .before .parents .ensures) (c .enum-told5 .given .1)
 
--- src/lib.rt:326:5
 names-requires : tie.Need-names-requires
 names-requires c κs =
     let words = c .before .before .before .before .before .before .before .before .before .before .before .args .words .now in
     let n = c .before .before .before .before .before .before .before .counted .given .0 .0 in
     counted-nodes words n (c .before .before .before .before .before .before .before .before .before .count .ensures) (c .before .before .before .before .before .before .before .counted .given .1) .0
 
--- src/lib.rt:311:1
 returns-4 : tie.Need-returns-4
 returns-4 c =
     let words = c .before .before .before .before .before .before .before .before .before .before .before .before .args .words .now in

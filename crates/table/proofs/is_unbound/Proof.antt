@@ -1,32 +1,24 @@
+-- `table::is_unbound` meets its contract: only kind 4 is a name, and it is looked up in its scope.
+use Prim.Native.Nat.{_+_, _*_}
+use mathlib.Core.Path.{refl, ap, _∙_}
+use borrow.Author.Needs.{needs}
 use Rattle.table.specs.Lookup.{nowhere-is-none}
 use Rattle.table.specs.NodeLaws.{read-name, read-no-name}
 use Rattle.table.specs.Node.{nodeAt, wordAt}
 use Rattle.table.specs.Scope.{scope, firstNamed}
 use Rattle.table.specs.Reading.{isNowhere}
-use Prim.Native.Nat.{_+_, _*_}
-use mathlib.Core.Path.{refl, ap, _∙_}
-use borrow.Author.Needs.{needs}
 use Rattle.table.proofs.is_unbound.Statement.{statement}
 use Rattle.table.proofs.is_unbound.Tie as tie
-use Rattle.table.proofs.is_unbound.Reads as reads
-use Rattle.table.proofs.is_unbound.Lts as lts
-use Rattle.table.proofs.is_nowhere.Reads as is-nowhere-reads
-use Rattle.table.proofs.lookup.Reads as lookup-reads
-use Rattle.table.proofs.node_at.Reads as node-at-reads
 
--- src/lib.rt:294:9
 node-at-requires : tie.Need-node-at-requires
 node-at-requires c κs = search needs
 
--- src/lib.rt:297:20
 lookup-requires : tie.Need-lookup-requires
 lookup-requires c κs = search needs
 
--- src/lib.rt:297:9
 is-nowhere-requires : tie.Need-is-nowhere-requires
 is-nowhere-requires c κs = search needs
 
--- src/lib.rt:290:1
 returns : tie.Need-returns
 returns c =
     let read = c .before .before .before .node-at .ensures in
@@ -35,7 +27,6 @@ returns c =
     let found = firstNamed (nodeAt words) (wordAt words (4 * k + 1)) (scope (nodeAt words) k) in
     rw (read-name words k (rw read at (c .before .before .if1 .taken))) (c .is-nowhere .ensures ∙ ap isNowhere (rw read at (c .before .lookup .ensures)) ∙ nowhere-is-none found)
 
--- src/lib.rt:290:1
 returns-2 : tie.Need-returns-2
 returns-2 c = rw (read-no-name _ _ (rw (c .before .node-at .ensures) at (c .if1 .left))) refl
 

@@ -1,155 +1,119 @@
-use borrow.Author.Needs.{needs}
+-- `table::keeps_rule` meets its contract: an arm for each kind, where the kind's rule is looked up in the list of rules.
+use Prim.Native.Nat.{zero-le}
 use mathlib.Core.Path.{refl, sym}
 use mathlib.Core.Logic.{inl, inr}
-use Prim.Native.Nat.{zero-le}
-use Rattle.table.specs.RuleLaws.{not-this, rule-of-unknown, rule-of-lambda-or-rec}
+use borrow.Author.Needs.{needs}
 use borrow.Author.Tests.{lt-ltb, le-ltb}
+use Rattle.table.specs.RuleLaws.{not-this, rule-of-unknown, rule-of-lambda-or-rec}
 use Rattle.table.specs.Refusals.{fitsRule}
 use Rattle.table.proofs.keeps_rule.Statement.{statement}
 use Rattle.table.proofs.keeps_rule.Tie as tie
-use Rattle.table.proofs.keeps_rule.Reads as reads
-use Rattle.table.proofs.keeps_rule.Lts as lts
-use Rattle.table.proofs.is_child.Reads as is-child-reads
-use Rattle.table.proofs.three.Reads as three-reads
-use Rattle.table.proofs.two.Reads as two-reads
 
--- src/lib.rt:73:14
 three-requires : tie.Need-three-requires
 three-requires c κs = search needs
 
--- src/lib.rt:75:22
 two-requires : tie.Need-two-requires
 two-requires c κs = search needs
 
--- src/lib.rt:78:14
 two-requires-2 : tie.Need-two-requires-2
 two-requires-2 c κs = search needs
 
--- src/lib.rt:80:22
 two-requires-3 : tie.Need-two-requires-3
 two-requires-3 c κs = search needs
 
--- src/lib.rt:84:26
 two-requires-4 : tie.Need-two-requires-4
 two-requires-4 c κs = search needs
 
--- src/lib.rt:87:20
 is-child-requires : tie.Need-is-child-requires
 is-child-requires c κs = search needs
 
--- src/lib.rt:87:39
 is-child-requires-2 : tie.Need-is-child-requires-2
 is-child-requires-2 c κs = search needs
 
--- src/lib.rt:87:14
 three-requires-2 : tie.Need-three-requires-2
 three-requires-2 c κs = search needs
 
--- src/lib.rt:88:20
 is-child-requires-3 : tie.Need-is-child-requires-3
 is-child-requires-3 c κs = search needs
 
--- src/lib.rt:88:39
 is-child-requires-4 : tie.Need-is-child-requires-4
 is-child-requires-4 c κs = search needs
 
--- src/lib.rt:88:58
 is-child-requires-5 : tie.Need-is-child-requires-5
 is-child-requires-5 c κs = search needs
 
--- src/lib.rt:88:14
 three-requires-3 : tie.Need-three-requires-3
 three-requires-3 c κs = search needs
 
--- src/lib.rt:90:30
 is-child-requires-6 : tie.Need-is-child-requires-6
 is-child-requires-6 c κs = search needs
 
--- src/lib.rt:90:26
 two-requires-5 : tie.Need-two-requires-5
 two-requires-5 c κs = search needs
 
--- src/lib.rt:94:30
 is-child-requires-7 : tie.Need-is-child-requires-7
 is-child-requires-7 c κs = search needs
 
--- src/lib.rt:94:49
 is-child-requires-8 : tie.Need-is-child-requires-8
 is-child-requires-8 c κs = search needs
 
--- src/lib.rt:94:26
 two-requires-6 : tie.Need-two-requires-6
 two-requires-6 c κs = search needs
 
--- src/lib.rt:65:1
 returns : tie.Need-returns
 unfolding fitsRule
 returns c = rw (c .before .match .keys1) (c .three .ensures)
 
--- src/lib.rt:65:1
 returns-2 : tie.Need-returns-2
 unfolding fitsRule
 returns-2 c = rw (c .before .before .match .keys2, lt-ltb _ _ (c .before .if1 .taken)) (c .two .ensures)
 
--- src/lib.rt:65:1
 returns-3 : tie.Need-returns-3
 unfolding fitsRule
 returns-3 c = rw (c .before .match .keys2, le-ltb _ _ (c .if1 .left)) refl
 
--- src/lib.rt:65:1
 returns-4 : tie.Need-returns-4
 unfolding fitsRule
 returns-4 c = rw (c .before .match .keys3) (c .two2 .ensures)
 
--- src/lib.rt:65:1
 returns-5 : tie.Need-returns-5
 unfolding fitsRule
 returns-5 c = rw (c .before .before .match .keys4, lt-ltb _ _ (c .before .if2 .taken)) (c .two3 .ensures)
 
--- src/lib.rt:65:1
 returns-6 : tie.Need-returns-6
 unfolding fitsRule
 returns-6 c = rw (c .before .match .keys4, le-ltb _ _ (c .if2 .left)) refl
 
--- src/lib.rt:65:1
 returns-7 : tie.Need-returns-7
 unfolding fitsRule
 returns-7 c = rw (c .before .before .match .keys5, lt-ltb _ _ (c .before .if3 .taken)) (c .two4 .ensures)
 
--- src/lib.rt:65:1
 returns-8 : tie.Need-returns-8
 unfolding fitsRule
 returns-8 c = rw (c .before .match .keys5, le-ltb _ _ (c .if3 .left)) refl
 
--- src/lib.rt:65:1
 returns-9 : tie.Need-returns-9
 unfolding fitsRule
 returns-9 c = rw (c .before .before .before .match .keys6) (cc)
 
--- src/lib.rt:65:1
 returns-10 : tie.Need-returns-10
 unfolding fitsRule
 returns-10 c = rw (c .before .before .before .before .match .keys7) (cc)
 
--- src/lib.rt:65:1
 returns-11 : tie.Need-returns-11
 returns-11 c = rw (rule-of-lambda-or-rec _ _ _ _ _ _ (c .before .before .before .match .keys8), lt-ltb _ _ (c .before .before .if4 .taken)) (cc)
 
--- src/lib.rt:65:1
 returns-12 : tie.Need-returns-12
 returns-12 c = rw (rule-of-lambda-or-rec _ _ _ _ _ _ (c .before .match .keys8), le-ltb _ _ (c .if4 .left)) refl
 
--- src/lib.rt:65:1
 returns-13 : tie.Need-returns-13
 unfolding fitsRule
 returns-13 c = rw (c .before .before .before .before .match .keys9, lt-ltb _ _ (c .before .before .before .if5 .taken)) (cc)
 
--- src/lib.rt:65:1
 returns-14 : tie.Need-returns-14
 unfolding fitsRule
 returns-14 c = rw (c .before .match .keys9, le-ltb _ _ (c .if5 .left)) refl
 
--- src/lib.rt:65:1
 returns-15 : tie.Need-returns-15
 returns-15 c =
     let r = c .match .rest in

@@ -1,51 +1,38 @@
-use borrow.Author.Tests.{eq-eqb, ne-eqb}
-use Rattle.table.specs.NodeLaws.{leaf, leaf-is-no-parent, lambda-or-rec-met, application-met, if-met, let-met}
+-- `table::meet` meets its contract: an arm for each kind with children, and a leaf is no parent.
 use mathlib.Core.Path.{refl}
+use borrow.Author.Tests.{eq-eqb, ne-eqb}
 use borrow.Author.Needs.{needs}
+use Rattle.table.specs.NodeLaws.{leaf, leaf-is-no-parent, lambda-or-rec-met, application-met, if-met, let-met}
 use Rattle.table.proofs.meet.Statement.{statement}
 use Rattle.table.proofs.meet.Tie as tie
-use Rattle.table.proofs.meet.Reads as reads
-use Rattle.table.proofs.meet.Lts as lts
-use Rattle.table.proofs.above.Reads as above-reads
-use Rattle.table.proofs.binding.Reads as binding-reads
 
--- src/lib.rt:222:14
 above-requires : tie.Need-above-requires
 above-requires c κs = search needs
 
--- src/lib.rt:223:14
 above-requires-2 : tie.Need-above-requires-2
 above-requires-2 c κs = search needs
 
--- src/lib.rt:224:18
 binding-requires : tie.Need-binding-requires
 binding-requires c κs = search needs
 
--- src/lib.rt:229:17
 binding-requires-2 : tie.Need-binding-requires-2
 binding-requires-2 c κs = search needs
 
--- src/lib.rt:214:1
 returns : tie.Need-returns
 returns c = rw (application-met _ _ _ _ _ _ (c .before .match .keys1)) (c .above .ensures)
 
--- src/lib.rt:214:1
 returns-2 : tie.Need-returns-2
 returns-2 c = rw (if-met _ _ _ _ _ _ (c .before .match .keys2)) (c .above2 .ensures)
 
--- src/lib.rt:214:1
 returns-3 : tie.Need-returns-3
 returns-3 c = rw (lambda-or-rec-met _ _ _ _ _ _ (c .before .match .keys3)) (c .binding .ensures)
 
--- src/lib.rt:214:1
 returns-4 : tie.Need-returns-4
 returns-4 c = rw (let-met _ _ _ _ _ _ (c .before .match .keys4), eq-eqb _ _ (c .if1 .taken)) refl
 
--- src/lib.rt:214:1
 returns-5 : tie.Need-returns-5
 returns-5 c = rw (let-met _ _ _ _ _ _ (c .before .before .match .keys4), ne-eqb _ _ (c .before .if1 .left)) (c .binding2 .ensures)
 
--- src/lib.rt:214:1
 returns-6 : tie.Need-returns-6
 returns-6 c =
     let r = c .match .rest in

@@ -1,14 +1,12 @@
+-- `table::names` meets its contract. The loop's invariant: what is left to search is the whole answer.
+use Prim.Native.Nat.{_-_}
+use mathlib.Core.Path.{refl, sym, _∙_}
+use native.Mathlib.Omega.{arith}
 use Rattle.table.specs.SearchLoop.{Searching, search-starts, search-goes-on, search-finds, search-ends}
 use Rattle.table.specs.Refusals.{unbound}
 use Rattle.table.specs.Node.{nodeAt}
-use native.Mathlib.Omega.{arith}
-use mathlib.Core.Path.{refl, sym, _∙_}
-use Prim.Native.Nat.{_-_}
 use Rattle.table.proofs.names.Statement.{statement}
 use Rattle.table.proofs.names.Tie as tie
-use Rattle.table.proofs.names.Reads as reads
-use Rattle.table.proofs.names.Lts as lts
-use Rattle.table.proofs.is_unbound.Reads as is-unbound-reads
 
 abbrev Inv-loop : tie.InvT-loop
 Inv-loop words n k₀ k = Searching (unbound (nodeAt words)) n k
@@ -16,31 +14,24 @@ Inv-loop words n k₀ k = Searching (unbound (nodeAt words)) n k
 abbrev μ-loop : tie.MeasureT-loop
 μ-loop words n k₀ k = n - k
 
--- src/lib.rt:301:5
 loop-holds : tie.Need-loop-holds Inv-loop μ-loop
 loop-holds c = search-starts
 
--- src/lib.rt:302:12
 is-unbound-requires : tie.Need-is-unbound-requires Inv-loop μ-loop
 is-unbound-requires c κs = omega arith
 
--- src/lib.rt:303:13
 returns : tie.Need-returns Inv-loop μ-loop
 returns c = rw (search-finds (c .before .before .before .loop .inv) (c .before .before .loop-test .taken) (sym (c .before .is-unbound .ensures) ∙ c .if1 .taken)) refl
 
--- src/lib.rt:305:9
 add-k : tie.Need-add-k Inv-loop μ-loop
 add-k c = omega arith
 
--- src/lib.rt:301:5
 loop-less : tie.Need-loop-less Inv-loop μ-loop
 loop-less c = omega arith
 
--- src/lib.rt:301:5
 loop-again : tie.Need-loop-again Inv-loop μ-loop
 loop-again c = search-goes-on (c .before .before .before .loop .inv) (c .before .before .loop-test .taken) (sym (c .before .is-unbound .ensures) ∙ c .if1 .left)
 
--- src/lib.rt:296:1
 returns-2 : tie.Need-returns-2 Inv-loop μ-loop
 returns-2 c = rw (search-ends (c .before .loop .inv) (c .loop-test .left)) refl
 

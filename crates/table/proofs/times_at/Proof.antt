@@ -1,21 +1,15 @@
-use Rattle.table.specs.Node.{nodeAt}
+-- `table::times_at` meets its contract: the count is made of the node's words.
 use borrow.Author.Needs.{needs}
+use Rattle.table.specs.Node.{nodeAt}
 use Rattle.table.proofs.times_at.Statement.{statement}
 use Rattle.table.proofs.times_at.Tie as tie
-use Rattle.table.proofs.times_at.Reads as reads
-use Rattle.table.proofs.times_at.Lts as lts
-use Rattle.table.proofs.node_at.Reads as node-at-reads
-use Rattle.table.proofs.times_in.Reads as times-in-reads
 
--- src/lib.rt:167:14
 node-at-requires : tie.Need-node-at-requires
 node-at-requires c κs = search needs
 
--- src/lib.rt:167:5
 times-in-requires : tie.Need-times-in-requires
 times-in-requires c κs = search needs
 
--- src/lib.rt:163:1
 returns : tie.Need-returns
 unfolding nodeAt
 returns c = rw (c .before .node-at .ensures) at (c .times-in .ensures)

@@ -1,82 +1,63 @@
+-- `table::times_in` meets its contract: an arm for each kind with children, and none are in a leaf.
 use mathlib.Core.Path.{refl}
-use Rattle.table.specs.NodeLaws.{leaf, leaf-holds-nothing, one-child}
-use Rattle.table.specs.Node.{nodeOf}
 use native.Mathlib.Omega.{arith}
 use borrow.Author.Needs.{needs}
+use Rattle.table.specs.NodeLaws.{leaf, leaf-holds-nothing, one-child}
+use Rattle.table.specs.Node.{nodeOf}
 use Rattle.table.proofs.times_in.Statement.{statement}
 use Rattle.table.proofs.times_in.Tie as tie
-use Rattle.table.proofs.times_in.Reads as reads
-use Rattle.table.proofs.times_in.Lts as lts
-use Rattle.table.proofs.one_if.Reads as one-if-reads
 
--- src/lib.rt:148:14
 one-if-requires : tie.Need-one-if-requires
 one-if-requires c κs = search needs
 
--- src/lib.rt:148:31
 one-if-requires-2 : tie.Need-one-if-requires-2
 one-if-requires-2 c κs = search needs
 
--- src/lib.rt:148:14
 add-result : tie.Need-add-result
 add-result c = search needs
 
--- src/lib.rt:149:14
 one-if-requires-3 : tie.Need-one-if-requires-3
 one-if-requires-3 c κs = search needs
 
--- src/lib.rt:149:31
 one-if-requires-4 : tie.Need-one-if-requires-4
 one-if-requires-4 c κs = search needs
 
--- src/lib.rt:149:14
 add-result-2 : tie.Need-add-result-2
 add-result-2 c = search needs
 
--- src/lib.rt:149:48
 one-if-requires-5 : tie.Need-one-if-requires-5
 one-if-requires-5 c κs = search needs
 
--- src/lib.rt:149:14
 add-result-3 : tie.Need-add-result-3
 add-result-3 c = search needs
 
--- src/lib.rt:150:18
 one-if-requires-6 : tie.Need-one-if-requires-6
 one-if-requires-6 c κs = search needs
 
--- src/lib.rt:151:14
 one-if-requires-7 : tie.Need-one-if-requires-7
 one-if-requires-7 c κs = search needs
 
--- src/lib.rt:151:31
 one-if-requires-8 : tie.Need-one-if-requires-8
 one-if-requires-8 c κs = search needs
 
--- src/lib.rt:151:14
 add-result-4 : tie.Need-add-result-4
 add-result-4 c = search needs
 
--- src/lib.rt:140:1
 returns : tie.Need-returns
 unfolding nodeOf
 returns c = (rw (c .before .before .match .keys1) (omega arith), omega arith)
 
--- src/lib.rt:140:1
 returns-2 : tie.Need-returns-2
 unfolding nodeOf
 returns-2 c = (rw (c .before .before .before .match .keys2) (omega arith), omega arith)
 
--- src/lib.rt:140:1
 returns-3 : tie.Need-returns-3
 returns-3 c = (rw (one-child _ _ _ _ _ (c .before .match .keys3)) (c .one-if6 .ensures .0), omega arith)
 
--- src/lib.rt:140:1
 returns-4 : tie.Need-returns-4
 unfolding nodeOf
 returns-4 c = (rw (c .before .before .match .keys4) (omega arith), omega arith)
 
--- src/lib.rt:140:1
 returns-5 : tie.Need-returns-5
 returns-5 c =
     let r = c .match .rest in
