@@ -1,5 +1,7 @@
 -- The formula table: its nodes, its refusals, what its names mean, and the expression that it stands for. `Promises` is the page to
 -- start from.
+pub mod Promises
+pub mod Examples
 -- Definitions.
 pub mod Node
 pub mod Walk

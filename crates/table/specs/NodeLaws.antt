@@ -11,8 +11,8 @@ use Rattle.language.specs.Expression.{Constant, Name}
 use Rattle.table.specs.Node.{Node, constant-node, name-node, application-node, if-node, lambda-node, let-node, rec-node, Field, field-a, field-b, field-c, wordAt, nodeOf, nodeAt}
 use Rattle.table.specs.Scope.{bindsIn, isNamed, nameOf}
 use Rattle.table.specs.Refusals.{once, timesIn}
-use Rattle.table.specs.Reading.{metIn, met, aboveIf, bindingIf}
-use Rattle.table.specs.declared.Met.the-variants.{Elsewhere, Above}
+use Rattle.table.specs.Reading.{metIn, met, aboveIf, bindingIf, letMet}
+use Rattle.table.specs.declared.Met.the-variants.{Elsewhere}
 
 -- ---- Nodes without children
 
@@ -80,11 +80,11 @@ module _ (kind a b c k : ℕ) where
     if-met e = rw e (binds-nowhere (if-node a b c) (λ f. refl) (eqb a k) (eqb b k) (eqb c k))
 
     -- A let binds in field c, and field b is looked at first.
-    pub let-met : kind ≡ 8 → met (nodeOf kind a b c) x k ≡ cond (eqb b k) Above (bindingIf (eqb c k) (eqb a x))
+    pub let-met : kind ≡ 8 → met (nodeOf kind a b c) x k ≡ letMet (eqb b k) (eqb c k) (eqb a x)
     unfolding nodeOf
     let-met e = rw e (go (eqb b k) (eqb c k))
       where
-        go : (p q : Bool) → metIn (cond p (some field-b) (cond q (some field-c) none)) x (let-node a b c) ≡ cond p Above (bindingIf q (eqb a x))
+        go : (p q : Bool) → metIn (cond p (some field-b) (cond q (some field-c) none)) x (let-node a b c) ≡ letMet p q (eqb a x)
         go true q = refl
         go false true = refl
         go false false = refl

@@ -60,6 +60,10 @@ aboveIf false true s = Above
 aboveIf false false true = Above
 aboveIf false false false = Elsewhere
 
+abbrev pub letMet : Bool → Bool → Bool → Met
+letMet true body named = Above
+letMet false body named = bindingIf body named
+
 -- What the walk from `current` finds among the nodes below p.
 abbrev pub foundBelow : Nodes → Name → ℕ → ℕ → Option ℕ
 foundBelow nd x current p = firstNamed nd x (climbFrom [] (enter nd) nd current p)

@@ -6,7 +6,7 @@ ghost use lib.ListN.{length};
 ghost use Rattle.table.specs.Node.{nodeAt};
 ghost use Rattle.table.specs.Scope.{scope, firstNamed};
 ghost use Rattle.table.specs.Refusals.{miscount, countOf, fits, fitsRule, isChild, once, timesIn, unbound, firstFrom, refuseAt, checkOf};
-ghost use Rattle.table.specs.Reading.{wordsAt, nodeIn, misplacedBelow, aboveIf, bindingIf, met, binderAnswer, isNowhere, binderIn};
+ghost use Rattle.table.specs.Reading.{wordsAt, nodeIn, misplacedBelow, aboveIf, bindingIf, letMet, met, binderAnswer, isNowhere, binderIn};
 
 // What the check of a table answers.
 pub enum Verdict {
@@ -225,6 +225,17 @@ fn binding(inside: bool, named: bool) -> Met
     }
 }
 
+// A let binds in its body only.
+fn of_let(bound: bool, body: bool, named: bool) -> Met
+    ensures { λ r. ⌜ r ≡ letMet bound body named ⌝ }
+{
+    if bound {
+        Met::Above
+    } else {
+        binding(body, named)
+    }
+}
+
 fn meet(w: NodeWords, x: u32, current: u32) -> Met
     ensures { λ r. ⌜ r ≡ met (nodeIn w) x current ⌝ }
 {
@@ -236,13 +247,7 @@ fn meet(w: NodeWords, x: u32, current: u32) -> Met
         5 => above(a == current, b == current, false),
         6 => above(a == current, b == current, c == current),
         7 | 9 => binding(b == current, a == x),
-        8 => {
-            if b == current {
-                Met::Above
-            } else {
-                binding(c == current, a == x)
-            }
-        }
+        8 => of_let(b == current, c == current, a == x),
         _ => Met::Elsewhere,
     }
 }

@@ -2,12 +2,15 @@
 use Prim.Native.Nat.{zero-le}
 use mathlib.Core.Path.{refl, sym}
 use mathlib.Core.Logic.{inl, inr}
+use native.Mathlib.Omega.{arith}
 use borrow.Author.Needs.{needs}
 use borrow.Author.Tests.{lt-ltb, le-ltb}
 use Rattle.table.specs.RuleLaws.{not-this, rule-of-unknown, rule-of-lambda-or-rec}
 use Rattle.table.specs.Refusals.{fitsRule}
 use Rattle.table.proofs.keeps_rule.Statement.{statement}
 use Rattle.table.proofs.keeps_rule.Tie as tie
+
+-- `table::keeps_rule` meets its contract: an arm for each kind, where the kind's rule is looked up in the list of rules.
 
 three-requires : tie.Need-three-requires
 three-requires c κs = search needs
@@ -78,11 +81,11 @@ returns-4 c = rw (c .before .match .keys3) (c .two2 .ensures)
 
 returns-5 : tie.Need-returns-5
 unfolding fitsRule
-returns-5 c = rw (c .before .before .match .keys4, lt-ltb _ _ (c .before .if2 .taken)) (c .two3 .ensures)
+returns-5 c = rw (c .before .before .match .keys4, lt-ltb (c .before .before .before .args .w .a) 10 (omega arith)) (c .two3 .ensures)
 
 returns-6 : tie.Need-returns-6
 unfolding fitsRule
-returns-6 c = rw (c .before .match .keys4, le-ltb _ _ (c .if2 .left)) refl
+returns-6 c = rw (c .before .match .keys4, le-ltb (c .before .before .args .w .a) 10 (omega arith)) refl
 
 returns-7 : tie.Need-returns-7
 unfolding fitsRule
@@ -94,21 +97,21 @@ returns-8 c = rw (c .before .match .keys5, le-ltb _ _ (c .if3 .left)) refl
 
 returns-9 : tie.Need-returns-9
 unfolding fitsRule
-returns-9 c = rw (c .before .before .before .match .keys6) (cc)
+returns-9 c = rw (c .before .before .before .match .keys6) (rw (c .before .before .is-child .ensures, c .before .is-child2 .ensures) at (c .three2 .ensures))
 
 returns-10 : tie.Need-returns-10
 unfolding fitsRule
-returns-10 c = rw (c .before .before .before .before .match .keys7) (cc)
+returns-10 c = rw (c .before .before .before .before .match .keys7) (rw (c .before .before .before .is-child3 .ensures, c .before .before .is-child4 .ensures, c .before .is-child5 .ensures) at (c .three3 .ensures))
 
 returns-11 : tie.Need-returns-11
-returns-11 c = rw (rule-of-lambda-or-rec _ _ _ _ _ _ (c .before .before .before .match .keys8), lt-ltb _ _ (c .before .before .if4 .taken)) (cc)
+returns-11 c = rw (rule-of-lambda-or-rec _ _ _ _ _ _ (c .before .before .before .match .keys8), lt-ltb _ _ (c .before .before .if4 .taken)) (rw (c .before .is-child6 .ensures) at (c .two5 .ensures))
 
 returns-12 : tie.Need-returns-12
 returns-12 c = rw (rule-of-lambda-or-rec _ _ _ _ _ _ (c .before .match .keys8), le-ltb _ _ (c .if4 .left)) refl
 
 returns-13 : tie.Need-returns-13
 unfolding fitsRule
-returns-13 c = rw (c .before .before .before .before .match .keys9, lt-ltb _ _ (c .before .before .before .if5 .taken)) (cc)
+returns-13 c = rw (c .before .before .before .before .match .keys9, lt-ltb _ _ (c .before .before .before .if5 .taken)) (rw (c .before .before .is-child7 .ensures, c .before .is-child8 .ensures) at (c .two6 .ensures))
 
 returns-14 : tie.Need-returns-14
 unfolding fitsRule

@@ -1,6 +1,5 @@
 -- `table::meet` meets its contract: an arm for each kind with children, and a leaf is no parent.
 use mathlib.Core.Path.{refl}
-use borrow.Author.Tests.{eq-eqb, ne-eqb}
 use borrow.Author.Needs.{needs}
 use Rattle.table.specs.NodeLaws.{leaf, leaf-is-no-parent, lambda-or-rec-met, application-met, if-met, let-met}
 use Rattle.table.proofs.meet.Statement.{statement}
@@ -15,8 +14,8 @@ above-requires-2 c κs = search needs
 binding-requires : tie.Need-binding-requires
 binding-requires c κs = search needs
 
-binding-requires-2 : tie.Need-binding-requires-2
-binding-requires-2 c κs = search needs
+of-let-requires : tie.Need-of-let-requires
+of-let-requires c κs = search needs
 
 returns : tie.Need-returns
 returns c = rw (application-met _ _ _ _ _ _ (c .before .match .keys1)) (c .above .ensures)
@@ -28,13 +27,10 @@ returns-3 : tie.Need-returns-3
 returns-3 c = rw (lambda-or-rec-met _ _ _ _ _ _ (c .before .match .keys3)) (c .binding .ensures)
 
 returns-4 : tie.Need-returns-4
-returns-4 c = rw (let-met _ _ _ _ _ _ (c .before .match .keys4), eq-eqb _ _ (c .if1 .taken)) refl
+returns-4 c = rw (let-met _ _ _ _ _ _ (c .before .match .keys4)) (c .of-let .ensures)
 
 returns-5 : tie.Need-returns-5
-returns-5 c = rw (let-met _ _ _ _ _ _ (c .before .before .match .keys4), ne-eqb _ _ (c .before .if1 .left)) (c .binding2 .ensures)
-
-returns-6 : tie.Need-returns-6
-returns-6 c =
+returns-5 c =
     let r = c .match .rest in
     rw (leaf-is-no-parent (leaf _ _ _ _ (r .0 .0 .0 .1) (r .0 .0 .1) (r .0 .1) (r .1)) _ _) refl
 
@@ -45,10 +41,9 @@ meet-spec =
     above-requires
     above-requires-2
     binding-requires
-    binding-requires-2
+    of-let-requires
     returns
     returns-2
     returns-3
     returns-4
-    returns-5
-    returns-6)
+    returns-5)

@@ -1,0 +1,153 @@
+#!/usr/bin/env python3
+"""Compares the compiled check of tables with a second one, written from the rules alone.
+
+usage: check_tables.py PROGRAM [COUNT]
+       check_tables.py --show WORD ..      (the packed table, for PROGRAM's standard input)
+
+PROGRAM is crates/verdicts as it is built; it is run as it stands, or under the emulator where the machine is no x86-64. The tables
+are generated from a fixed seed: trees in any numbering, names bound and unbound, and the same with words damaged, cut and added.
+"""
+import os
+import platform
+import random
+import struct
+import subprocess
+import sys
+
+# kind: the fields a, b, c in turn; '0' unused, 'n' name, 'k' child, 'w' any word, or a range
+FIELDS = {
+    0: "000", 1: [range(2), "0", "0"], 2: "w00", 3: [range(10), "0", "0"], 4: "n00",
+    5: "kk0", 6: "kkk", 7: "nk0", 8: "nkk", 9: "nk0",
+}
+
+
+def children(node):
+    """The children of a node, each with the name that the node binds there or None."""
+    kind, a, b, c = node
+    if kind == 5:
+        return [(a, None), (b, None)]
+    if kind == 6:
+        return [(a, None), (b, None), (c, None)]
+    if kind in (7, 9):
+        return [(b, a)]
+    if kind == 8:
+        return [(b, None), (c, a)]
+    return []
+
+
+def field_fits(rule, value, at, count):
+    if rule == "0":
+        return value == 0
+    if rule == "n":
+        return value <= 65535
+    if rule == "k":
+        return at < value < count
+    return rule == "w" or value in rule
+
+
+def verdict(words):
+    if not words or len(words) % 4 or len(words) > 2048:
+        return "refused 1 0"
+    nodes = [tuple(words[i:i + 4]) for i in range(0, len(words), 4)]
+    for at, (kind, *fields) in enumerate(nodes):
+        if kind not in FIELDS or not all(map(lambda r, v: field_fits(r, v, at, len(nodes)), FIELDS[kind], fields)):
+            return "refused 2 %d" % at
+    times = [0] * len(nodes)
+    for node in nodes:
+        for child, _ in children(node):
+            times[child] += 1
+    for at in range(1, len(nodes)):
+        if times[at] != 1:
+            return "refused 3 %d" % at
+    # From the root down, each node with the names that are bound there.
+    unbound, open_nodes = [], [(0, frozenset())]
+    while open_nodes:
+        at, bound = open_nodes.pop()
+        if nodes[at][0] == 4 and nodes[at][1] not in bound:
+            unbound.append(at)
+        open_nodes += [(child, bound if name is None else bound | {name}) for child, name in children(nodes[at])]
+    return "refused 4 %d" % min(unbound) if unbound else "nodes %d" % len(nodes)
+
+
+def tree(rng, size):
+    """A random tree of at most `size` nodes as words, children above parents, in an order of its own."""
+    nodes, open_nodes = [None], [(0, ())]
+    while open_nodes:
+        at, names = open_nodes.pop(rng.randrange(len(open_nodes)))
+        left = size - len(nodes) - len(open_nodes)
+        kind = rng.choice([5, 6, 7, 8, 9]) if left > 3 and rng.random() < 0.8 else rng.choice([0, 1, 2, 3, 4, 4])
+        name = rng.randrange(4) if rng.random() < 0.9 else rng.randrange(65536)
+        if kind == 4 and names and rng.random() < 0.95:
+            name = rng.choice(names)
+        first = len(nodes)
+        spread = {5: 2, 6: 3, 7: 1, 8: 2, 9: 1}.get(kind, 0)
+        nodes += [None] * spread
+        kids = list(range(first, first + spread))
+        rng.shuffle(kids)
+        fields = {0: [0, 0, 0], 1: [rng.randrange(2), 0, 0], 2: [rng.getrandbits(32), 0, 0], 3: [rng.randrange(10), 0, 0],
+                  4: [name, 0, 0]}.get(kind)
+        if fields is None:
+            fields = (kids if kind in (5, 6) else [name] + kids) + [0, 0]
+        nodes[at] = [kind] + fields[:3]
+        bound = {7: [0], 9: [0], 8: [1]}.get(kind, [])
+        open_nodes += [(kid, names + (name,) if i in bound else names) for i, kid in enumerate(kids)]
+    return [word for node in nodes for word in node]
+
+
+def damaged(rng, words):
+    words = list(words)
+    parents = [at for at, kind in enumerate(words) if at % 4 == 0 and kind in (5, 6)]
+    if parents and rng.random() < 0.2:
+        # A child that is another's, or nobody's.
+        at = rng.choice(parents)
+        words[at + 1 + rng.randrange(2)] = rng.randrange(at // 4, len(words) // 4) + 1
+        return words
+    for _ in range(rng.randrange(3)):
+        at = rng.randrange(len(words))
+        words[at] = rng.choice([0, 1, 2, 5, 9, 10, 65535, 65536, 2 ** 32 - 1, len(words) // 4, at // 4, at // 4 + 1, rng.randrange(12)])
+    if rng.random() < 0.05:
+        words = words[:rng.randrange(len(words) + 1)]
+    if rng.random() < 0.02:
+        words += [rng.randrange(12) for _ in range(rng.randrange(9))]
+    return words
+
+
+def tables(count):
+    rng = random.Random(20)
+    chain = [word for k in range(511) for word in (7, k, k + 1, 0)]
+    yield from [[], [0] * 4, [0] * 3, [0] * 5, chain + [0] * 4, chain + [4, 510, 0, 0], chain + [4, 511, 0, 0],
+                [7, 0, 1, 0] + chain + [0] * 4, [0] * 2048, [0] * 2049, [0] * 2052, [4, 0, 0, 0]]
+    for number in range(count):
+        words = tree(rng, rng.choice([1, 2, 4, 8, 16, 40] if number % 50 else [128, 512]))
+        yield damaged(rng, words) if rng.random() < 0.7 else words
+
+
+def packed(words):
+    return struct.pack("<%dI" % (len(words) + 1), len(words), *words)
+
+
+def main():
+    if sys.argv[1:2] == ["--show"]:
+        sys.stdout.buffer.write(packed([int(word) for word in sys.argv[2:]]))
+        return
+    program, count = [sys.argv[1]], int(sys.argv[2]) if len(sys.argv) > 2 else 20000
+    if platform.machine() != "x86_64":
+        program = ["qemu-x86_64"] + (["-L", "/usr/x86_64-linux-gnu"] if os.path.isdir("/usr/x86_64-linux-gnu") else []) + program
+    asked = list(tables(count))
+    run = subprocess.run(program, input=b"".join(map(packed, asked)), stdout=subprocess.PIPE, check=True)
+    answers = run.stdout.decode().split("\n")[:-1]
+    if len(answers) != len(asked):
+        sys.exit("%d tables, %d answers" % (len(asked), len(answers)))
+    kinds = {}
+    for words, answer in zip(asked, answers):
+        wanted = verdict(words)
+        if answer != wanted:
+            sys.exit("the table %s: wanted %s, the program says %s" % (words, wanted, answer))
+        kind = wanted if wanted == "refused 1 0" else " ".join(wanted.split()[:-1])
+        kinds[kind] = kinds.get(kind, 0) + 1
+    if min(kinds.get(kind, 0) for kind in ["nodes", "refused 1 0", "refused 2", "refused 3", "refused 4"]) < 100:
+        sys.exit("a kind of answer is hardly met: %s" % kinds)
+    print("%d tables agree: %s" % (len(asked), ", ".join("%s %d" % pair for pair in sorted(kinds.items()))))
+
+
+main()
