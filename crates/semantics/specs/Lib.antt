@@ -1,8 +1,22 @@
 -- The machine that runs formulas, and what is proved of its runs. `Promises` is the page to start from.
+pub mod Promises
 -- Definitions.
 pub mod Limits
 pub mod Machine
 pub mod Answer
 pub mod SmallEnd
+-- Fuel and room, for any machine.
 pub mod EndsIn
+pub mod LimitsLaws
+-- Environments and scopes.
+pub mod InScope
+pub mod InScopeLaws
+-- The machine against the small steps.
+pub mod Close
+pub mod Standing
+pub mod StandingLaws
+pub mod Simulation
+pub mod SmallEndLaws
+pub mod EndsLikeSmallSteps
+-- Runs of the bench formulas.
 pub mod Examples

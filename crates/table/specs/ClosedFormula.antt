@@ -66,13 +66,16 @@ module _ {nd : Nodes} {n : ℕ} (t : Tree nd n) where
   pub free-is-bound : (k : ℕ) → k < n → (x : Name) → Free x (expAt nd n k) → (b : ℕ) × (firstNamed nd x (scope nd k) ≡ some b)
   free-is-bound = up t FreeIsBound from-children
 
-pub formula-closed : (words : List ℕ) (n : ℕ) → Checked words n → Closed (expOf words)
+pub root-closed : {nd : Nodes} {n : ℕ} → Tree nd n → Closed (expAt nd n 0)
 unfolding firstNamed
-formula-closed words n c =
+root-closed {nd} t =
     record {
       nothing-free = λ x free.
-          let (b, e) = free-is-bound (c .tree) 0 (c .tree .root) x (rw (count-is c) at free) in
-          let at-root = rw (climb-root [] (enter (nodeAt words)) (nodeAt words)) at e in
+          let (b, e) = free-is-bound t 0 (t .root) x free in
+          let at-root = rw (climb-root [] (enter nd) nd) at e in
           let z : _≡_ {A = ℕ} 0 1 = cc in
           omega arith;
     }
+
+pub formula-closed : (words : List ℕ) (n : ℕ) → Checked words n → Closed (expOf words)
+formula-closed words n c = rw (count-is c) (root-closed (c .tree))

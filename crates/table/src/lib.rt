@@ -3,7 +3,7 @@ ghost use Prim.Native.Nat.{_+_, _*_, _≤_, _<_};
 ghost use mathlib.Core.Path.{_≡_};
 ghost use mathlib.Core.Bool.{not, _&&_};
 ghost use lib.ListN.{length};
-ghost use Rattle.table.specs.Node.{nodeAt};
+ghost use Rattle.table.specs.Node.{wordAt, nodeAt};
 ghost use Rattle.table.specs.Scope.{scope, firstNamed};
 ghost use Rattle.table.specs.Refusals.{miscount, countOf, fits, fitsRule, isChild, once, timesIn, unbound, firstFrom, refuseAt, checkOf};
 ghost use Rattle.table.specs.Reading.{wordsAt, nodeIn, misplacedBelow, aboveIf, bindingIf, letMet, met, binderAnswer, isNowhere, binderIn};
@@ -23,11 +23,11 @@ pub enum Bound {
 }
 
 // The four words of a node.
-struct NodeWords {
-    kind: u32,
-    a: u32,
-    b: u32,
-    c: u32,
+pub struct NodeWords {
+    pub kind: u32,
+    pub a: u32,
+    pub b: u32,
+    pub c: u32,
 }
 
 fn node_at(words: &[u32], k: u32) -> NodeWords
@@ -40,6 +40,28 @@ fn node_at(words: &[u32], k: u32) -> NodeWords
         a: words[i + 1],
         b: words[i + 2],
         c: words[i + 3],
+    }
+}
+
+fn word_or_zero(words: &[u32], i: usize) -> u32
+    ensures { λ r. ⌜ r ≡ wordAt (now (words .entry)) i ⌝ }
+{
+    if i < words.len() { words[i] } else { 0 }
+}
+
+// The words of node k of any table; a word past the end is 0.
+pub fn read(words: &[u32], k: u32) -> NodeWords
+    ensures { λ r. ⌜ r ≡ wordsAt (now (words .entry)) k ⌝ }
+{
+    let i = 4 * (k as usize);
+    if i + 4 <= words.len() {
+        return node_at(words, k);
+    }
+    NodeWords {
+        kind: word_or_zero(words, i),
+        a: word_or_zero(words, i + 1),
+        b: word_or_zero(words, i + 2),
+        c: word_or_zero(words, i + 3),
     }
 }
 

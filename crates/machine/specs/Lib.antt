@@ -1,0 +1,7 @@
+-- The machine's code against its definition: what the words of its stores stand for, and what the code answers.
+-- Definitions.
+pub mod Stores
+pub mod Answers
+pub mod Decode
+pub mod Steps
+pub mod Runs

@@ -1,0 +1,120 @@
+-- What fuel and room do to a run, for any machine: enough of them give the end that the machine comes to without limits, with its counts;
+-- less give that or name what ran out.
+use Prim.Native.Nat.{ℕ, zero, suc, _+_, max, _<_, _≤_}
+use mathlib.Core.Path.{_≡_, refl, sym, _∙_, ap}
+use mathlib.Core.Bool.{Bool, true, false}
+use mathlib.Core.Logic.{_⊎_, inl, inr}
+use native.Mathlib.Nat.{zero-add}
+use native.Mathlib.Omega.{arith}
+use borrow.Author.Tests.{lt-ltb}
+use lib.Dec.{ltb}
+use Rattle.semantics.specs.Limits.{Need, nothing, a-binding, a-frame, Next, at-end, last-step, steps-to, Limit, fuel-limit, binding-limit, frame-limit, How, ended, ran-out, Ran, Room, ran, ifFree, withoutFuel, withFuel, runFrom, run}
+use Rattle.semantics.specs.EndsIn.{bindingsFor, EndsIn, here, by-last-step, later, AtLeast}
+
+with-counts : {E : Type 0} {r : Ran E} {h : How E} {n n′ m m′ : ℕ} → r ≡ ran h n m → (n ≡ n′) × (m ≡ m′) → r ≡ ran h n′ m′
+with-counts p q = cc
+
+abbrev room-of : ℕ → ℕ → ℕ → Room
+room-of fuel bindings frames = record { fuel = fuel; bindings = bindings; frames = frames }
+
+module _ {S E : Type 0} (next : S → Next S E) (inUse : S → ℕ) where
+  -- ---- Enough is enough
+
+  -- A capacity of frames that is enough: one more than are in use in any state of the run.
+  framesFor : {s : S} {e : E} {n m : ℕ} → EndsIn next s e n m → ℕ
+  framesFor (here p) = 0
+  framesFor (by-last-step p) = 0
+  framesFor (later {s = s} p d) = max (suc (inUse s)) (framesFor d)
+
+  module _ (room : Room) where
+    -- Where a binding and a frame are free the step is made, whatever it needs.
+    goes-on : (need : Need) (s : S) (used steps made : ℕ) (onwards : ℕ → S → Ran E) → bindingsFor need + made ≤ room .bindings → used < room .frames
+        → withFuel (steps-to need s) room used steps made onwards ≡ onwards (bindingsFor need + made) s
+    goes-on nothing s used steps made onwards h g = ap (λ k. onwards k s) (omega arith)
+    goes-on a-binding s used steps made onwards h g = rw (lt-ltb made (room .bindings) (omega arith)) (ap (λ k. onwards k s) (omega arith))
+    goes-on a-frame s used steps made onwards h g = rw (lt-ltb used (room .frames) g) (ap (λ k. onwards k s) (omega arith))
+
+    enough-from : {s : S} {e : E} {n m : ℕ} (d : EndsIn next s e n m) (left steps made : ℕ)
+        → AtLeast (room-of n (made + m) (framesFor d)) (room-of left (room .bindings) (room .frames))
+        → runFrom next inUse room left steps made s ≡ ran (ended e) (steps + n) (made + m)
+    unfolding runFrom framesFor
+    enough-from (here p) zero steps made h = rw p (with-counts refl (omega arith))
+    enough-from (here p) (suc left) steps made h = rw p (with-counts refl (omega arith))
+    enough-from (by-last-step p) zero steps made h = absurd (omega arith)
+    enough-from (by-last-step p) (suc left) steps made h = rw p (with-counts refl (omega arith))
+    enough-from (later p d) zero steps made h = absurd (omega arith)
+    enough-from (later {s = s} {s′ = s′} {need = need} p d) (suc left) steps made h =
+        rw (p, goes-on need s′ (inUse s) steps made (λ made′ t. runFrom next inUse room left (suc steps) made′ t) (omega arith) (omega arith))
+        (with-counts (enough-from d left (suc steps) (bindingsFor need + made) (omega arith)) (omega arith))
+
+  -- Some fuel and room give the end, and all greater ones give it with the same counts.
+  pub enough : {s : S} {e : E} {n m : ℕ} → EndsIn next s e n m → (r : Room) × ((r′ : Room) → AtLeast r r′ → run next inUse r′ s ≡ ran (ended e) n m)
+  enough {n} {m} d =
+      (room-of n m (framesFor d), λ r′ h. with-counts (enough-from r′ d (r′ .fuel) 0 0 (omega arith)) (omega arith))
+
+  -- A state comes to one end, with one count of steps and of bindings: both are what one large run gives.
+  pub ends-once : {s : S} {e e′ : E} {n n′ m m′ : ℕ} → EndsIn next s e n m → EndsIn next s e′ n′ m′ → (e ≡ e′) × (n ≡ n′) × (m ≡ m′)
+  ends-once d d′ =
+      let (r, h) = enough d in
+      let (r′, h′) = enough d′ in
+      let large : Room = room-of (max (r .fuel) (r′ .fuel)) (max (r .bindings) (r′ .bindings)) (max (r .frames) (r′ .frames)) in
+      let q = sym (h large (omega arith)) ∙ h′ large (omega arith) in
+      let q₀ = ap (λ x. x .how) q in
+      (cc, ap (λ x. x .steps) q, ap (λ x. x .made) q)
+
+  -- ---- Every run is that end or names what ran out
+
+  -- How a run from s went that had made so many steps and bindings before: to the end of the machine without limits, or it ran out.
+  data Outcome (s : S) (steps made : ℕ) (r : Ran E) : Type 0 where
+    comes-to-end : {e : E} {n m : ℕ} → EndsIn next s e n m → r ≡ ran (ended e) (steps + n) (made + m) → Outcome s steps made r
+    runs-out : (l : Limit) → r .how ≡ ran-out l → Outcome s steps made r
+
+  test-keeps-outcome : {s : S} {steps made : ℕ} {r : Ran E} (b : Bool) (l : Limit) → Outcome s steps made r → Outcome s steps made (ifFree b l steps made (λ _. r))
+  test-keeps-outcome true l o = o
+  test-keeps-outcome false l o = runs-out l refl
+
+  step-keeps-outcome : {s s′ : S} {steps made made′ : ℕ} {r : Ran E} {need : Need} → next s ≡ steps-to need s′ → made′ ≡ bindingsFor need + made
+      → Outcome s′ (suc steps) made′ r → Outcome s steps made r
+  step-keeps-outcome p q (comes-to-end d h) = comes-to-end (later p d) (with-counts h (omega arith))
+  step-keeps-outcome p q (runs-out l h) = runs-out l h
+
+  module _ (room : Room) where
+    outcome : (left steps made : ℕ) (s : S) → Outcome s steps made (runFrom next inUse room left steps made s)
+    unfolding runFrom
+    outcome zero steps made s = go (next s) refl
+      where
+        go : (x : Next S E) → next s ≡ x → Outcome s steps made (withoutFuel x steps made)
+        go (at-end e) p = comes-to-end (here p) (with-counts refl (omega arith))
+        go (last-step e) p = runs-out fuel-limit refl
+        go (steps-to need s′) p = runs-out fuel-limit refl
+    outcome (suc left) steps made s = go (next s) refl (λ made′ s′. outcome left (suc steps) made′ s′)
+      where
+        go : (x : Next S E) → next s ≡ x → ((made′ : ℕ) (s′ : S) → Outcome s′ (suc steps) made′ (runFrom next inUse room left (suc steps) made′ s′))
+            → Outcome s steps made (withFuel x room (inUse s) steps made (λ made′ s′. runFrom next inUse room left (suc steps) made′ s′))
+        go (at-end e) p on = comes-to-end (here p) (with-counts refl (omega arith))
+        go (last-step e) p on = comes-to-end (by-last-step p) (with-counts refl (omega arith))
+        go (steps-to nothing s′) p on = step-keeps-outcome p (omega arith) (on made s′)
+        go (steps-to a-binding s′) p on = test-keeps-outcome (ltb made (room .bindings)) binding-limit (step-keeps-outcome p (omega arith) (on (suc made) s′))
+        go (steps-to a-frame s′) p on = test-keeps-outcome (ltb (inUse s) (room .frames)) frame-limit (step-keeps-outcome p (omega arith) (on made s′))
+
+  -- All other fuel and room give the same end and counts, or the run names what ran out.
+  pub ended-or-ran-out : {s : S} {e : E} {n m : ℕ} → EndsIn next s e n m → (r : Room)
+      → (run next inUse r s ≡ ran (ended e) n m) ⊎ ((l : Limit) × (run next inUse r s .how ≡ ran-out l))
+  ended-or-ran-out {s} d r = elim (outcome r (r .fuel) 0 0 s) [
+    | comes-to-end d′ p ↦ let (q, q₁, q₂) = ends-once d d′ in inl (rw q (with-counts p (omega arith)))
+    | runs-out l p ↦ inr (l, p)
+  ]
+
+  -- An end of a limited run is the end of the machine without limits.
+  pub ended-is-end : (r : Room) (s : S) {e : E} → run next inUse r s .how ≡ ended e → EndsIn next s e (run next inUse r s .steps) (run next inUse r s .made)
+  ended-is-end r s {e} h = elim (outcome r (r .fuel) 0 0 s) [
+    | comes-to-end {e = e′} d p ↦ let q : e ≡ e′ = cc in rw (p, q) (simp zero-add d)
+    | runs-out l p ↦ absurd (let z : _≡_ {A = ℕ} 0 1 = cc in omega arith)
+  ]
+
+  -- Where the machine without limits comes to no end, every run names what ran out.
+  pub no-end-runs-out : {s : S} → ((e : E) (n m : ℕ) → ¬ EndsIn next s e n m) → (r : Room) → (l : Limit) × (run next inUse r s .how ≡ ran-out l)
+  no-end-runs-out {s} none r = elim (outcome r (r .fuel) 0 0 s) [
+    | comes-to-end d p ↦ absurd (none _ _ _ d)
+    | runs-out l p ↦ (l, p)
+  ]
