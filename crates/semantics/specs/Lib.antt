@@ -5,6 +5,7 @@ pub mod Limits
 pub mod Machine
 pub mod Answer
 pub mod SmallEnd
+pub mod Reached
 -- Fuel and room, for any machine.
 pub mod EndsIn
 pub mod LimitsLaws
@@ -18,5 +19,6 @@ pub mod StandingLaws
 pub mod Simulation
 pub mod SmallEndLaws
 pub mod EndsLikeSmallSteps
+pub mod TableRuns
 -- Runs of the bench formulas.
 pub mod Examples

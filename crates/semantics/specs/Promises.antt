@@ -1,18 +1,61 @@
 -- What is proved of runs: demand 2's half about them, and demand 3. Everything is said of `runTable`, the run of a table with fuel and
--- room, and of the small steps of the expression that the table stands for.
-use Prim.Native.Nat.{ℕ}
-use mathlib.Core.Path.{_≡_, refl, sym, _∙_, ap}
-use mathlib.Core.Logic.{_⊎_, inl, inr, ⊎-elim}
+-- room (`Answer`, `Limits`, `Machine`), and of the small steps of the expression that the table stands for. `Checked words n` says that
+-- the check accepts the table; `EndsAs`, `Reached` and `NamesLimit` are defined in `SmallEnd` and `Reached`.
+use Prim.Native.Nat.{ℕ, _≤_, _<_}
+use mathlib.Core.Path.{_≡_}
+use mathlib.Core.Logic.{_⊎_}
 use mathlib.Core.List.{List}
 use Rattle.language.specs.Expression.{Exp}
+use Rattle.language.specs.Expression as L2
 use Rattle.language.specs.Integers.{Exception}
 use Rattle.language.specs.SmallStep.{Step, raised, Steps, Diverges}
 use Rattle.language.specs.Ty.{Ty}
 use Rattle.language.specs.Environment.{empty}
 use Rattle.language.specs.Typing.{Has}
+use Rattle.table.specs.Node.{nodeAt}
 use Rattle.table.specs.ExpressionOf.{expOf}
 use Rattle.table.specs.Tree.{Checked}
-use Rattle.semantics.specs.Limits.{Limit, Room}
-use Rattle.semantics.specs.EndsIn.{AtLeast}
-use Rattle.semantics.specs.Answer.{Answer, stuck-answer, limit-answer, RunAnswer, runTable}
+use Rattle.semantics.specs.Limits.{Need, steps-to, Room}
+use Rattle.semantics.specs.Machine.{State, next, start}
+use Rattle.semantics.specs.Answer.{Answer, exception-answer, stuck-answer, code, runTable}
 use Rattle.semantics.specs.SmallEnd.{EndsAs}
+use Rattle.semantics.specs.Reached.{NamesLimit, answerFor, Reached}
+use Rattle.semantics.specs.InScope.{InScope, ApplicationOrIf}
+use Rattle.semantics.specs.TableRuns as TableRuns
+use Rattle.semantics.specs.InScopeLaws as InScopeLaws
+
+module _ {words : List ℕ} {n : ℕ} (checked : Checked words n) where
+  -- (a) An answer is the end of the small steps, with the value, or names what ran out.
+  ends-as-small-steps-or-names-limit : (room : Room) → EndsAs (expOf words) (runTable words room .answer) ⊎ NamesLimit (runTable words room .answer)
+  ends-as-small-steps-or-names-limit = TableRuns.ends-as-small-steps-or-names-limit checked
+
+  -- (b) If the formula has a type, no fuel and no room give 16.
+  typed-never-stuck : {τ : Ty} → Has empty (expOf words) τ → (room : Room) (k : ℕ) → ¬ (runTable words room .answer ≡ stuck-answer k)
+  typed-never-stuck = TableRuns.typed-never-stuck checked
+
+  -- (c) If the small steps bring it to a value or an exception, some fuel and room give that end, all greater ones with the same counts,
+  -- and all others give it or name what ran out.
+  value-is-reached : {v : Exp} → Steps (expOf words) v → L2.Value v → Reached words (answerFor v)
+  value-is-reached = TableRuns.value-is-reached checked
+
+  exception-is-reached : {e′ : Exp} {x : Exception} → Steps (expOf words) e′ → Step e′ (raised x) → Reached words (exception-answer x)
+  exception-is-reached = TableRuns.exception-is-reached checked
+
+  -- (d) If the small steps go on without end, every run names what ran out.
+  endless-names-limit : Diverges (expOf words) → (room : Room) → NamesLimit (runTable words room .answer)
+  endless-names-limit = TableRuns.endless-names-limit checked
+
+  -- A run gets stuck only at an application or an if node.
+  stuck-at-application-or-if : (room : Room) (k : ℕ) → runTable words room .answer ≡ stuck-answer k → (k < n) × ApplicationOrIf (nodeAt words k)
+  stuck-at-application-or-if = TableRuns.stuck-at-application-or-if checked
+
+  -- Along a run each environment is, entry by entry, the scope of its node, so that every name is found.
+  start-in-scope : InScope (nodeAt words) n start
+  start-in-scope = InScopeLaws.start-in-scope (checked .tree)
+
+  steps-stay-in-scope : {s s′ : State} {need : Need} → next (nodeAt words) s ≡ steps-to need s′ → InScope (nodeAt words) n s → InScope (nodeAt words) n s′
+  steps-stay-in-scope = InScopeLaws.steps-stay-in-scope (checked .tree)
+
+-- (e) Every run answers exactly one of 10 to 19, with counts that are the machine's: `runTable` is a function.
+answers-10-to-19 : (a : Answer) → (10 ≤ code a) × (code a ≤ 19)
+answers-10-to-19 = TableRuns.answers-10-to-19

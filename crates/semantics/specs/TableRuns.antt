@@ -1,0 +1,163 @@
+-- Runs of a checked table: how they end is how the small steps of its formula end, and what fuel and room do to that.
+use Prim.Native.Nat.{ℕ, _≤_, _<_}
+use mathlib.Core.Path.{_≡_, refl, sym, _∙_, ap, subst}
+use mathlib.Core.Logic.{_⊎_, inl, inr, ⊎-elim, ⊎-map}
+use mathlib.Core.List.{List}
+use native.Mathlib.Omega.{arith}
+use Rattle.language.specs.Expression.{Exp}
+use Rattle.language.specs.Expression as L2
+use Rattle.language.specs.Integers.{Exception, division-by-zero, overflow}
+use Rattle.language.specs.SmallStep.{Step, raised, Steps, Stuck, Diverges}
+use Rattle.language.specs.Ty.{Ty}
+use Rattle.language.specs.Environment.{empty}
+use Rattle.language.specs.Typing.{Has}
+use Rattle.language.specs.Safety.{safety}
+use Rattle.table.specs.Node.{Nodes, nodeAt}
+use Rattle.table.specs.ExpressionOf.{expAt, expOf}
+use Rattle.table.specs.Tree.{Checked}
+use Rattle.table.specs.Accepted.{count-is}
+use Rattle.semantics.specs.Limits.{Limit, fuel-limit, binding-limit, frame-limit, How, ended, ran-out, Ran, ran, Room, run}
+use Rattle.semantics.specs.Machine.{Value, unit-value, boolean-value, integer-value, operator-value, operator-with, operator-with-other, closure, End, done, stuck-at, raised-by, next, start, framesInUse}
+use Rattle.semantics.specs.Answer.{Answer, integer-answer, boolean-answer, unit-answer, function-answer, exception-answer, stuck-answer, limit-answer, code, valueAnswer, endAnswer, answerOf, wholeAnswer, runTable}
+use Rattle.semantics.specs.SmallEnd.{EndsAs, got-stuck, an-integer, a-boolean, the-unit, a-function, an-exception, a-lambda, an-operator, an-operator-with, Alike, same, both-stuck}
+use Rattle.semantics.specs.Reached.{NamesLimit, answerFor, Reached}
+use Rattle.semantics.specs.EndsIn.{EndsIn}
+use Rattle.semantics.specs.LimitsLaws as LimitsLaws
+use Rattle.semantics.specs.InScope.{ApplicationOrIf}
+use Rattle.semantics.specs.InScopeLaws as InScopeLaws
+use Rattle.semantics.specs.EndsLikeSmallSteps as EndsLikeSmallSteps
+use Rattle.semantics.specs.SmallEndLaws.{what-ends-does-not-diverge}
+
+module _ {words : List ℕ} {n : ℕ} (checked : Checked words n) where
+  abbrev nd : Nodes
+  nd = nodeAt words
+
+  -- The formula.
+  abbrev e : Exp
+  e = expOf words
+
+  root-is : expAt nd n 0 ≡ e
+  root-is = ap (λ count. expAt nd count 0) (sym (count-is checked))
+
+  -- What the machine without limits ends in is how the small steps end.
+  ends-so : {end : End} {i m : ℕ} → EndsIn (next nd) start end i m → EndsAs e (endAnswer end)
+  ends-so {end} x = subst (λ (f : Exp). EndsAs f (endAnswer end)) root-is (EndsLikeSmallSteps.ends-as-small-steps (checked .tree) x)
+
+  -- ---- Ends
+
+  pub ends-as-small-steps-or-names-limit : (room : Room) → EndsAs e (runTable words room .answer) ⊎ NamesLimit (runTable words room .answer)
+  unfolding runTable
+  ends-as-small-steps-or-names-limit room = go (run (next nd) framesInUse room start .how) refl
+    where
+      go : (how : How End) → run (next nd) framesInUse room start .how ≡ how → EndsAs e (answerOf how) ⊎ NamesLimit (answerOf how)
+      go (ended end) is = inl (ends-so (LimitsLaws.ended-is-end (next nd) framesInUse room start is))
+      go (ran-out l) is = inr (record { limit = l; names = refl })
+
+  -- ---- Types
+
+  stuck-is-stuck : {a : Answer} {k : ℕ} → EndsAs e a → a ≡ stuck-answer k → (e′ : Exp) × Steps e e′ × Stuck e′
+  stuck-is-stuck (an-integer s) is = absurd (let z : _≡_ {A = ℕ} 0 1 = cc in omega arith)
+  stuck-is-stuck (a-boolean s) is = absurd (let z : _≡_ {A = ℕ} 0 1 = cc in omega arith)
+  stuck-is-stuck (the-unit s) is = absurd (let z : _≡_ {A = ℕ} 0 1 = cc in omega arith)
+  stuck-is-stuck (a-function s f) is = absurd (let z : _≡_ {A = ℕ} 0 1 = cc in omega arith)
+  stuck-is-stuck (an-exception s r) is = absurd (let z : _≡_ {A = ℕ} 0 1 = cc in omega arith)
+  stuck-is-stuck (got-stuck s st) is = (_, s, st)
+
+  pub typed-never-stuck : {τ : Ty} → Has empty e τ → (room : Room) (k : ℕ) → ¬ (runTable words room .answer ≡ stuck-answer k)
+  typed-never-stuck typed room k is = ⊎-elim at-end at-limit (ends-as-small-steps-or-names-limit room)
+    where
+      at-end : EndsAs e (runTable words room .answer) → ⊥
+      at-end ends = let (e′, steps, stuck) = stuck-is-stuck ends is in safety typed steps stuck
+
+      at-limit : NamesLimit (runTable words room .answer) → ⊥
+      at-limit limit = let named = limit .names in let z : _≡_ {A = ℕ} 0 1 = cc in omega arith
+
+  -- ---- Fuel and room
+
+  end-is-reached : {end : End} {i m : ℕ} → EndsIn (next nd) start end i m → Reached words (endAnswer end)
+  unfolding runTable
+  end-is-reached {i} {m} x =
+      let (room, all-greater) = LimitsLaws.enough (next nd) framesInUse x in
+      record {
+        room = room;
+        steps = i;
+        bindings = m;
+        greater = λ r h. ap wholeAnswer (all-greater r h);
+        others = λ r. ⊎-map (ap wholeAnswer) (λ out. record { limit = out .0; names = ap answerOf (out .1) }) (LimitsLaws.ended-or-ran-out (next nd) framesInUse x r);
+      }
+
+  reached : {a : Answer} → EndsAs e a → ((k : ℕ) → ¬ (a ≡ stuck-answer k)) → Reached words a
+  reached {a} ends no-stuck =
+      let (end, i, m, x, alike) = EndsLikeSmallSteps.small-end-is-machine-end (checked .tree) (subst (λ (f : Exp). EndsAs f a) (sym root-is) ends) in
+      subst (Reached words) (sym (equal alike no-stuck)) (end-is-reached x)
+    where
+      equal : {a b : Answer} → Alike a b → ((k : ℕ) → ¬ (a ≡ stuck-answer k)) → a ≡ b
+      equal same h = refl
+      equal (both-stuck {j}) h = absurd (h j refl)
+
+  value-ends : {v : Exp} → Steps e v → L2.Value v → EndsAs e (answerFor v)
+  value-ends s (L2.constant-value {c = L2.unit-element}) = the-unit s
+  value-ends s (L2.constant-value {c = L2.boolean b}) = a-boolean s
+  value-ends s (L2.constant-value {c = L2.integer z}) = an-integer s
+  value-ends s (L2.constant-value {c = L2.operator o}) = a-function s an-operator
+  value-ends s L2.lambda-value = a-function s a-lambda
+  value-ends s (L2.operator-value v) = a-function s (an-operator-with v)
+
+  pub value-is-reached : {v : Exp} → Steps e v → L2.Value v → Reached words (answerFor v)
+  value-is-reached steps value = reached (value-ends steps value) (no-stuck value)
+    where
+      no-stuck : {v : Exp} → L2.Value v → (k : ℕ) → ¬ (answerFor v ≡ stuck-answer k)
+      no-stuck (L2.constant-value {c = L2.unit-element}) k is = let z : _≡_ {A = ℕ} 0 1 = cc in omega arith
+      no-stuck (L2.constant-value {c = L2.boolean b}) k is = let z : _≡_ {A = ℕ} 0 1 = cc in omega arith
+      no-stuck (L2.constant-value {c = L2.integer z}) k is = let z : _≡_ {A = ℕ} 0 1 = cc in omega arith
+      no-stuck (L2.constant-value {c = L2.operator o}) k is = let z : _≡_ {A = ℕ} 0 1 = cc in omega arith
+      no-stuck L2.lambda-value k is = let z : _≡_ {A = ℕ} 0 1 = cc in omega arith
+      no-stuck (L2.operator-value v) k is = let z : _≡_ {A = ℕ} 0 1 = cc in omega arith
+
+  pub exception-is-reached : {e′ : Exp} {x : Exception} → Steps e e′ → Step e′ (raised x) → Reached words (exception-answer x)
+  exception-is-reached steps raises = reached (an-exception steps raises) (λ k is. let z : _≡_ {A = ℕ} 0 1 = cc in omega arith)
+
+  -- ---- Without end
+
+  pub endless-names-limit : Diverges e → (room : Room) → NamesLimit (runTable words room .answer)
+  endless-names-limit endless room = ⊎-elim (λ ends. absurd (what-ends-does-not-diverge ends endless)) (λ limit. limit) (ends-as-small-steps-or-names-limit room)
+
+  -- ---- Where a run gets stuck
+
+  value-not-stuck : (v : Value) {k : ℕ} → ¬ (valueAnswer v ≡ stuck-answer k)
+  value-not-stuck unit-value is = let z : _≡_ {A = ℕ} 0 1 = cc in omega arith
+  value-not-stuck (boolean-value b) is = let z : _≡_ {A = ℕ} 0 1 = cc in omega arith
+  value-not-stuck (integer-value i) is = let z : _≡_ {A = ℕ} 0 1 = cc in omega arith
+  value-not-stuck (operator-value o) is = let z : _≡_ {A = ℕ} 0 1 = cc in omega arith
+  value-not-stuck (operator-with o i) is = let z : _≡_ {A = ℕ} 0 1 = cc in omega arith
+  value-not-stuck (operator-with-other o) is = let z : _≡_ {A = ℕ} 0 1 = cc in omega arith
+  value-not-stuck (closure x b η) is = let z : _≡_ {A = ℕ} 0 1 = cc in omega arith
+
+  only-stuck : (end : End) {k : ℕ} → endAnswer end ≡ stuck-answer k → end ≡ stuck-at k
+  only-stuck (done v) is = absurd (value-not-stuck v is)
+  only-stuck (stuck-at j) is = cc
+  only-stuck (raised-by x) is = absurd (let z : _≡_ {A = ℕ} 0 1 = cc in omega arith)
+
+  pub stuck-at-application-or-if : (room : Room) (k : ℕ) → runTable words room .answer ≡ stuck-answer k → (k < n) × ApplicationOrIf (nd k)
+  unfolding runTable
+  stuck-at-application-or-if room k is = go (run (next nd) framesInUse room start .how) refl is
+    where
+      go : (how : How End) → run (next nd) framesInUse room start .how ≡ how → answerOf how ≡ stuck-answer k → (k < n) × ApplicationOrIf (nd k)
+      go (ran-out l) so is = absurd (let z : _≡_ {A = ℕ} 0 1 = cc in omega arith)
+      go (ended end) so is =
+          let x = LimitsLaws.ended-is-end (next nd) framesInUse room start so in
+          InScopeLaws.ends-stuck-at-application-or-if (checked .tree) (subst (λ (x : End). EndsIn (next nd) start x (run (next nd) framesInUse room start .steps) (run (next nd) framesInUse room start .made)) (only-stuck end is) x)
+
+-- ---- Codes
+
+pub answers-10-to-19 : (a : Answer) → (10 ≤ code a) × (code a ≤ 19)
+answers-10-to-19 (integer-answer n) = omega arith
+answers-10-to-19 (boolean-answer b) = omega arith
+answers-10-to-19 unit-answer = omega arith
+answers-10-to-19 function-answer = omega arith
+answers-10-to-19 (exception-answer division-by-zero) = omega arith
+answers-10-to-19 (exception-answer overflow) = omega arith
+answers-10-to-19 (stuck-answer k) = omega arith
+answers-10-to-19 (limit-answer fuel-limit) = omega arith
+answers-10-to-19 (limit-answer binding-limit) = omega arith
+answers-10-to-19 (limit-answer frame-limit) = omega arith
