@@ -150,4 +150,5 @@ def main():
     print("%d tables agree: %s" % (len(asked), ", ".join("%s %d" % pair for pair in sorted(kinds.items()))))
 
 
-main()
+if __name__ == "__main__":
+    main()

@@ -6,7 +6,7 @@ use mathlib.Core.Bool.{Bool, true, false, cond, _||_, false≢true}
 use mathlib.Core.List.{List, [], _∷_, _++_}
 use lib.Dec.{eqb}
 use borrow.Author.Tests.{eqb-true, eq-eqb}
-use Rattle.language.specs.Ty.{Ty, unit, bool, int, _⇒_, var, Subst, apply, compose, MoreGeneral}
+use Rattle.language.specs.Ty.{Ty, unit, bool, int, _⇒_, var, Subst, apply, compose}
 use Rattle.language.specs.TyLaws.{apply-compose, compose-assoc}
 use Rattle.language.specs.Unification.{Equation, _≐_, Solves, none-left, also, MostGeneralSolution, occurs, single, applyAll, Answer, solution, unsolvable, Right, after}
 

@@ -1,5 +1,4 @@
 -- Substitutions on types are a monoid, and being more general is a preorder (lecture notes, Lemmas 11 to 13).
-use Prim.Native.Nat.{ℕ}
 use mathlib.Core.Path.{_≡_, refl, sym, _∙_, ap, ap₂, fun-ext}
 use Rattle.language.specs.Ty.{Ty, unit, bool, int, _⇒_, var, Subst, identity, apply, compose, MoreGeneral, Instance}
 

@@ -2,7 +2,7 @@
 use mathlib.Core.Path.{_≡_, refl}
 use mathlib.Core.List.{List, [], _∷_}
 use Rattle.language.specs.Ty.{Ty, bool, int, _⇒_, var, apply}
-use Rattle.language.specs.Unification.{Equation, _≐_, Answer, solution, unsolvable, unify}
+use Rattle.language.specs.Unification.{_≐_, Answer, solution, unsolvable, unify}
 
 abbrev α : Ty
 α = var 0

@@ -1,6 +1,6 @@
 -- The written form of a type: prefix order, 1 unit, 2 bool, 3 int, 4 arrow and then its two parts, 16 + k for variable k, where
 -- variables are numbered from 0 by first appearance.
-use Prim.Native.Nat.{ℕ, zero, suc, _+_}
+use Prim.Native.Nat.{ℕ, suc, _+_}
 use mathlib.Core.Path.{_≡_}
 use mathlib.Core.Bool.{Bool, false, cond, _||_}
 use mathlib.Core.List.{List, [], _∷_, _++_}

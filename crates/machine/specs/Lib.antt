@@ -5,3 +5,11 @@ pub mod Answers
 pub mod Decode
 pub mod Steps
 pub mod Runs
+
+-- What the words stand for, and what a move changes.
+pub mod StoreLaws
+pub mod DecodeLaws
+pub mod MoveLaws
+
+-- The steps.
+pub mod EvaluateLaws

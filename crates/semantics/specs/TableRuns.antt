@@ -1,6 +1,6 @@
 -- Runs of a checked table: how they end is how the small steps of its formula end, and what fuel and room do to that.
 use Prim.Native.Nat.{ℕ, _≤_, _<_}
-use mathlib.Core.Path.{_≡_, refl, sym, _∙_, ap, subst}
+use mathlib.Core.Path.{_≡_, refl, sym, ap, subst}
 use mathlib.Core.Logic.{_⊎_, inl, inr, ⊎-elim, ⊎-map}
 use mathlib.Core.List.{List}
 use native.Mathlib.Omega.{arith}
@@ -16,7 +16,7 @@ use Rattle.table.specs.Node.{Nodes, nodeAt}
 use Rattle.table.specs.ExpressionOf.{expAt, expOf}
 use Rattle.table.specs.Tree.{Checked}
 use Rattle.table.specs.Accepted.{count-is}
-use Rattle.semantics.specs.Limits.{Limit, fuel-limit, binding-limit, frame-limit, How, ended, ran-out, Ran, ran, Room, run}
+use Rattle.semantics.specs.Limits.{fuel-limit, binding-limit, frame-limit, How, ended, ran-out, Room, run}
 use Rattle.semantics.specs.Machine.{Value, unit-value, boolean-value, integer-value, operator-value, operator-with, operator-with-other, closure, End, done, stuck-at, raised-by, next, start, framesInUse}
 use Rattle.semantics.specs.Answer.{Answer, integer-answer, boolean-answer, unit-answer, function-answer, exception-answer, stuck-answer, limit-answer, code, valueAnswer, endAnswer, answerOf, wholeAnswer, runTable}
 use Rattle.semantics.specs.SmallEnd.{EndsAs, got-stuck, an-integer, a-boolean, the-unit, a-function, an-exception, a-lambda, an-operator, an-operator-with, Alike, same, both-stuck}

@@ -9,7 +9,7 @@ use native.Mathlib.Omega.{arith}
 use lib.Dec.{eqb}
 use borrow.Author.Tests.{ne-eqb}
 use Rattle.language.specs.Expression.{Name, Free, Closed}
-use Rattle.table.specs.Node.{Node, Nodes, constant-node, name-node, application-node, if-node, lambda-node, let-node, rec-node, Field, field-a, field-b, field-c, child, Kid, nodeAt}
+use Rattle.table.specs.Node.{Node, Nodes, constant-node, name-node, application-node, if-node, lambda-node, let-node, rec-node, Field, field-a, field-b, field-c, child, Kid}
 use Rattle.table.specs.Scope.{bindsIn, enter, scope, isNamed, firstNamed}
 use Rattle.table.specs.ExpressionOf.{shape, expAt, expOf}
 use Rattle.table.specs.Tree.{Tree, Checked}

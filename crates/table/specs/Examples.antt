@@ -2,9 +2,9 @@
 use Prim.Native.Nat.{ℕ}
 use mathlib.Core.Path.{_≡_, refl}
 use mathlib.Core.List.{List, [], _∷_}
-use mathlib.Core.Option.{none, some}
+use mathlib.Core.Option.{some}
 use lib.IntN.{pos}
-use Rattle.language.specs.Expression.{plus, integer, operator, Exp, constant, name, app, lambda}
+use Rattle.language.specs.Expression.{plus, integer, operator, constant, name, app, lambda}
 use Rattle.table.specs.Node.{nodeOf, nodeAt}
 use Rattle.table.specs.Walk.{climbFrom}
 use Rattle.table.specs.Scope.{firstNamed, binderOf, scope}

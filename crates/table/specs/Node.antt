@@ -1,7 +1,6 @@
 -- A node of a formula table as a value. Four words make a node: kind, a, b, c. Words enter here and in the refusals 1 and 2 only; all
 -- other theory is over `Nodes`.
 use Prim.Native.Nat.{ℕ, _+_, _*_}
-use mathlib.Core.Bool.{Bool}
 use mathlib.Core.List.{List, [], _∷_}
 use mathlib.Core.Option.{Option, none, some}
 use mathlib.Core.Path.{_≡_}

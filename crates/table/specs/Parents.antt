@@ -1,17 +1,17 @@
 -- Code 3 as the code finds it. Where every node fits its rule, a node's parents stand below it, so that it is enough to count there.
 use Prim.Native.Nat.{ℕ, zero, suc, _+_, _≤_, _<_}
-use mathlib.Core.Path.{_≡_, refl, sym, _∙_, ap}
+use mathlib.Core.Path.{_≡_, refl, ap}
 use mathlib.Core.Bool.{Bool, true, false, not, _&&_, and-false}
 use mathlib.Core.List.{List}
-use mathlib.Core.Option.{Option, some}
+use mathlib.Core.Option.{some}
 use native.Mathlib.Decide.{ℕ-discrete}
 use native.Mathlib.Numerals.{add-one}
 use native.Mathlib.Omega.{arith}
 use lib.Dec.{eqb}
 use borrow.Author.Tests.{eq-eqb, ne-eqb}
-use Rattle.table.specs.Node.{Node, Nodes, Field, field-a, field-b, field-c, child, nodeAt}
+use Rattle.table.specs.Node.{Nodes, Field, field-a, field-b, field-c, child, nodeAt}
 use Rattle.table.specs.Walk.{holds}
-use Rattle.table.specs.Refusals.{fits, once, timesIn, timesBelow, misplaced, firstFrom}
+use Rattle.table.specs.Refusals.{fits, timesIn, timesBelow, misplaced, firstFrom}
 use Rattle.table.specs.Reading.{misplacedBelow}
 use Rattle.table.specs.FirstFrom.{first-same}
 use Rattle.table.specs.TreeLaws.{holds-true}

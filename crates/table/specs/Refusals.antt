@@ -5,7 +5,7 @@ use mathlib.Core.List.{List, [], _∷_}
 use mathlib.Core.Option.{Option, none, some}
 use lib.Dec.{eqb, ltb}
 use lib.ListN.{length, getD}
-use Rattle.table.specs.Node.{Node, Nodes, Field, field-a, field-b, field-c, child, wordAt, nodeAt}
+use Rattle.table.specs.Node.{Node, Nodes, field-a, field-b, field-c, child, wordAt, nodeAt}
 use Rattle.table.specs.Walk.{holds}
 use Rattle.table.specs.Scope.{nameOf, binderOf}
 use Rattle.table.specs.declared.Verdict.{Verdict}

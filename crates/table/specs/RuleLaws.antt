@@ -1,7 +1,7 @@
 -- The rule of a kind, where the code asks it of several kinds at once.
 use Prim.Native.Nat.{ℕ, suc, _≤_}
 use native.Mathlib.Omega.{arith}
-use mathlib.Core.Path.{_≡_, refl, ap}
+use mathlib.Core.Path.{_≡_, ap}
 use mathlib.Core.Logic.{_⊎_, inl, inr}
 use mathlib.Core.Bool.{Bool, false, _&&_}
 use lib.ListN.{List·getD-eq-default}

@@ -1,7 +1,7 @@
 -- The one walk from a node up to the root. A parent has a smaller number than its child, so the walk goes once through the numbers
 -- below the node: where p has the current node as a child, it takes a step there, and p becomes the current node.
 use Prim.Native.Nat.{ℕ, zero, suc}
-use mathlib.Core.Bool.{Bool, true, false, cond}
+use mathlib.Core.Bool.{Bool, false, cond}
 use mathlib.Core.Option.{Option, none, some}
 use lib.Dec.{eqb}
 use Rattle.table.specs.Node.{Node, Nodes, Field, field-a, field-b, field-c, child}
