@@ -13,3 +13,8 @@ pub mod MoveLaws
 
 -- The steps.
 pub mod EvaluateLaws
+
+-- The loop and the call.
+pub mod RunLaws
+pub mod Clearing
+pub mod RunCall
