@@ -5,15 +5,14 @@ pub mod Answers
 pub mod Decode
 pub mod Steps
 pub mod Runs
-
 -- What the words stand for, and what a move changes.
 pub mod StoreLaws
 pub mod DecodeLaws
 pub mod MoveLaws
-
 -- The steps.
 pub mod EvaluateLaws
-
+pub mod ValueLaws
+pub mod ReturnLaws
 -- The loop and the call.
 pub mod RunLaws
 pub mod Clearing

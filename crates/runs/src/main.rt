@@ -51,7 +51,11 @@ fn write_pair(code: u32, payload: u32) {
 }
 
 fn is_refusal(a: Answer) -> bool {
-    if let Answer::Refused { code: _, place: _ } = a { true } else { false }
+    if let Answer::Refused { code: _, place: _ } = a {
+        true
+    } else {
+        false
+    }
 }
 
 fn fill(store: &mut [u32]) {
@@ -84,7 +88,11 @@ fn zeroed(refused: bool, length: usize) -> usize {
     if refused {
         return 0;
     }
-    if length < 32768 { length / 8 * 8 } else { 32768 }
+    if length < 32768 {
+        length / 8 * 8
+    } else {
+        32768
+    }
 }
 
 fn show(words: &[u32], fuel: u32, bindings: &mut [u32], frames: &mut [u32]) {
