@@ -10,6 +10,7 @@ pub mod StoreLaws
 pub mod DecodeLaws
 pub mod MoveLaws
 -- The steps.
+pub mod StepLaws
 pub mod EvaluateLaws
 pub mod ValueLaws
 pub mod ReturnLaws
