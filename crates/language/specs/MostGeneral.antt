@@ -22,11 +22,11 @@ first-solved (also e h) = e
 pub rest-solved : {s : Subst} {e : Equation} {E : List Equation} → Solves s (e ∷ E) → Solves s E
 rest-solved (also e h) = h
 
-solves-append : {s : Subst} {E₁ E₂ : List Equation} → Solves s E₁ → Solves s E₂ → Solves s (E₁ ++ E₂)
+pub solves-append : {s : Subst} {E₁ E₂ : List Equation} → Solves s E₁ → Solves s E₂ → Solves s (E₁ ++ E₂)
 solves-append none-left h₂ = h₂
 solves-append (also e h₁) h₂ = also e (solves-append h₁ h₂)
 
-solves-split : {s : Subst} (E₁ E₂ : List Equation) → Solves s (E₁ ++ E₂) → Solves s E₁ × Solves s E₂
+pub solves-split : {s : Subst} (E₁ E₂ : List Equation) → Solves s (E₁ ++ E₂) → Solves s E₁ × Solves s E₂
 solves-split [] E₂ h = (none-left, h)
 solves-split (e ∷ E₁) E₂ (also q h) = let (h₁, h₂) = solves-split E₁ E₂ h in (also q h₁, h₂)
 

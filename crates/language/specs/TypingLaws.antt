@@ -27,7 +27,7 @@ gives-has-no-variable s at-most = refl
 gives-has-no-variable s at-least = refl
 gives-has-no-variable s equal = refl
 
-constants-have-no-variable : (s : Subst) (c : Constant) → apply s (typeOf c) ≡ typeOf c
+pub constants-have-no-variable : (s : Subst) (c : Constant) → apply s (typeOf c) ≡ typeOf c
 unfolding apply
 constants-have-no-variable s unit-element = refl
 constants-have-no-variable s (boolean b) = refl
