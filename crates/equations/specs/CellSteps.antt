@@ -45,9 +45,6 @@ module _ {ρ : Subst} {σ σ′ : Store} {i : ℕ} where
   free-written e p = (λ s. (put-back e p s tt, fits-at s (p .there)), λ (s, f). put-keeps p s f)
 
   module _ {j : ℕ} where
-    pub free-linked : σ i ≡ free → Put σ σ′ i (link j) → Sat ρ σ′ ↔ (Sat ρ σ × (ρ i ≡ ρ j))
-    free-linked = free-written
-
     -- Cells that say the same: equal base cells, above all.
     pub equal-linked : σ i ≡ σ j → i ≢ j → Put σ σ′ i (link j) → Sat ρ σ′ ↔ (Sat ρ σ × (ρ i ≡ ρ j))
     equal-linked e n p = (

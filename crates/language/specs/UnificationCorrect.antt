@@ -10,7 +10,7 @@ use lib.Dec.{T, T-not, eqb, eqb-refl}
 use borrow.Author.Tests.{eqb-true, eqb-false}
 use Rattle.language.specs.Ty.{Ty, unit, bool, int, _⇒_, var, Subst, apply}
 use Rattle.language.specs.TyLaws.{identity-most-general}
-use Rattle.language.specs.Unification.{Equation, _≐_, Solves, none-left, also, MostGeneralSolution, varsAll, occurs, single, applyAll, Answer, solution, unsolvable, Right, Case, trivial, parts, variable, clash, caseOf, eliminate, byCase, rules, size, sizeAll, unifyWithin, unify}
+use Rattle.language.specs.Unification.{Equation, _≐_, Solves, none-left, also, varsAll, occurs, single, applyAll, Answer, solution, unsolvable, Right, Case, trivial, parts, variable, clash, caseOf, eliminate, byCase, rules, size, sizeAll, unifyWithin, unify}
 use Rattle.language.specs.MostGeneral.{first-solved, rest-solved, single-most-general, after-right}
 use Rattle.language.specs.Elimination.{Holds, all-held, fewer-held}
 
@@ -150,16 +150,3 @@ within-right (suc n) (suc m) L E e h l =
 pub unify-right : (E : List Equation) → Right E (unify E)
 unfolding unify
 unify-right E = within-right (length (varsAll E)) (suc (sizeAll E)) (varsAll E) E refl (all-held E) (omega arith)
-
-pub unsolvable-means-none : (E : List Equation) → unify E ≡ unsolvable → (s : Subst) → ¬ Solves s E
-unsolvable-means-none E e = subst (Right E) e (unify-right E)
-
-pub solution-is-most-general : (E : List Equation) (s : Subst) → unify E ≡ solution s → MostGeneralSolution E s
-solution-is-most-general E s e = subst (Right E) e (unify-right E)
-
-pub solvable-is-solved : (E : List Equation) (s : Subst) → Solves s E → (s′ : Subst) × (unify E ≡ solution s′)
-solvable-is-solved E s h = go (unify E) refl
-  where
-    go : (a : Answer) → unify E ≡ a → (s′ : Subst) × (unify E ≡ solution s′)
-    go (solution s′) e = (s′, e)
-    go unsolvable e = absurd (unsolvable-means-none E e s h)

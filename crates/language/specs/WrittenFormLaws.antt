@@ -211,9 +211,6 @@ renamed-instances r = (record { by = λ α. var (r .to α); is = r .there }, rec
 pub renamed-same-words : {τ τ′ : Ty} → Renamed τ τ′ → wordsOf τ ≡ wordsOf τ′
 renamed-same-words r = let i = renamed-instances r in instances-same-words (i .0) (i .1)
 
-pub instances-renamed : {τ τ′ : Ty} → Instance τ τ′ → Instance τ′ τ → Renamed τ τ′
-instances-renamed {τ} {τ′} i i′ = same-words-renamed τ τ′ (instances-same-words i i′)
-
 pub same-words-exactly-renamed : (τ τ′ : Ty) → (wordsOf τ ≡ wordsOf τ′) ↔ Renamed τ τ′
 same-words-exactly-renamed τ τ′ = (same-words-renamed τ τ′, renamed-same-words)
 

@@ -111,10 +111,3 @@ module _ {S E : Type 0} (next : S → Next S E) (inUse : S → ℕ) where
     | comes-to-end {e = e′} d p ↦ let q : e ≡ e′ = cc in rw (p, q) (simp zero-add d)
     | runs-out l p ↦ absurd (let z : _≡_ {A = ℕ} 0 1 = cc in omega arith)
   ]
-
-  -- Where the machine without limits comes to no end, every run names what ran out.
-  pub no-end-runs-out : {s : S} → ((e : E) (n m : ℕ) → ¬ EndsIn next s e n m) → (r : Room) → (l : Limit) × (run next inUse r s .how ≡ ran-out l)
-  no-end-runs-out {s} none r = elim (outcome r (r .fuel) 0 0 s) [
-    | comes-to-end d p ↦ absurd (none _ _ _ d)
-    | runs-out l p ↦ (l, p)
-  ]

@@ -5,18 +5,18 @@ use Prim.Native.Nat.{ℕ, _≤_, _<_}
 use mathlib.Core.Path.{_≡_}
 use mathlib.Core.Logic.{_⊎_}
 use mathlib.Core.List.{List}
-use Rattle.language.specs.Expression.{Exp}
+use Rattle.language.specs.Expression.{Name, Exp}
 use Rattle.language.specs.Expression as L2
 use Rattle.language.specs.Integers.{Exception}
 use Rattle.language.specs.SmallStep.{Step, raised, Steps, Diverges}
 use Rattle.language.specs.Ty.{Ty}
 use Rattle.language.specs.Environment.{empty}
 use Rattle.language.specs.Typing.{Has}
-use Rattle.table.specs.Node.{nodeAt}
+use Rattle.table.specs.Node.{name-node, nodeAt}
 use Rattle.table.specs.ExpressionOf.{expOf}
 use Rattle.table.specs.Tree.{Checked}
-use Rattle.semantics.specs.Limits.{Need, steps-to, Room}
-use Rattle.semantics.specs.Machine.{State, next, start}
+use Rattle.semantics.specs.Limits.{Need, at-end, steps-to, Room}
+use Rattle.semantics.specs.Machine.{Chain, Frame, State, evaluate, End, next, start}
 use Rattle.semantics.specs.Answer.{Answer, exception-answer, stuck-answer, code, runTable}
 use Rattle.semantics.specs.SmallEnd.{EndsAs}
 use Rattle.semantics.specs.Reached.{NamesLimit, answerFor, Reached}
@@ -55,6 +55,10 @@ module _ {words : List ℕ} {n : ℕ} (checked : Checked words n) where
 
   steps-stay-in-scope : {s s′ : State} {need : Need} → next (nodeAt words) s ≡ steps-to need s′ → InScope (nodeAt words) n s → InScope (nodeAt words) n s′
   steps-stay-in-scope = InScopeLaws.steps-stay-in-scope (checked .tree)
+
+  names-are-found : {k : ℕ} {x : Name} {η : Chain} {frames : List Frame} {e : End} → nodeAt words k ≡ name-node x → InScope (nodeAt words) n (evaluate k η frames)
+      → ¬ (next (nodeAt words) (evaluate k η frames) ≡ at-end e)
+  names-are-found = InScopeLaws.names-are-found (checked .tree)
 
 -- (e) Every run answers exactly one of 10 to 19, with counts that are the machine's: `runTable` is a function.
 answers-10-to-19 : (a : Answer) → (10 ≤ code a) × (code a ≤ 19)

@@ -2,13 +2,14 @@
 use Prim.Native.Nat.{ℕ}
 use mathlib.Core.Path.{_≡_, refl}
 use native.Mathlib.Omega.{arith}
-use Rattle.language.specs.Expression.{Constant, Value, unit-element, boolean, integer, operator, Exp, constant, name, app, if-then-else, lambda, let-in, rec, constant-value, lambda-value, operator-value}
+use Rattle.language.specs.Expression.{Value, Exp, constant-value, lambda-value, operator-value}
 use Rattle.language.specs.SmallStep.{next, raised, Step, Steps, done, then, Diverges}
 use Rattle.language.specs.Move.{Move, steps, value, stuck, move}
 use Rattle.language.specs.MoveDecides.{value-is-move, step-is-move, stuck-is-move}
 use Rattle.language.specs.Determinism.{values-do-not-step, steps-are-deterministic}
-use Rattle.semantics.specs.Answer.{Answer, integer-answer, boolean-answer, unit-answer, function-answer, exception-answer, stuck-answer}
+use Rattle.semantics.specs.Answer.{Answer, unit-answer, function-answer, exception-answer, stuck-answer}
 use Rattle.semantics.specs.SmallEnd.{Function, a-lambda, an-operator, an-operator-with, EndsAs, an-integer, a-boolean, the-unit, a-function, an-exception, got-stuck, Final, at-value, at-exception, at-stuck, Alike, same, both-stuck}
+use Rattle.semantics.specs.Reached.{answerFor}
 
 -- What steps to an expression ends as that does.
 pub ends-before : {e e′ : Exp} {a : Answer} → Step e (next e′) → EndsAs e′ a → EndsAs e a
@@ -35,25 +36,10 @@ final-is-one (then {e′} d₁ ds₁) f₁ (then {e′ = e″} d₂ ds₂) f₂ 
     final-is-one ds₁ f₁ (rw one at ds₂) f₂
 
 -- The answer that a last expression is, with a node for a stuck one.
-abbrev constantAnswer : Constant → Answer
-constantAnswer unit-element = unit-answer
-constantAnswer (boolean b) = boolean-answer b
-constantAnswer (integer n) = integer-answer n
-constantAnswer (operator o) = function-answer
-
-abbrev expAnswer : Exp → Answer
-expAnswer (constant c) = constantAnswer c
-expAnswer (name x) = function-answer
-expAnswer (app e₁ e₂) = function-answer
-expAnswer (if-then-else e₀ e₁ e₂) = function-answer
-expAnswer (lambda x e) = function-answer
-expAnswer (let-in x e₁ e₂) = function-answer
-expAnswer (rec x e) = function-answer
-
 abbrev moveAnswer : Move → Exp → ℕ → Answer
 moveAnswer (steps (next e′)) e k = unit-answer
 moveAnswer (steps (raised x)) e k = exception-answer x
-moveAnswer value e k = expAnswer e
+moveAnswer value e k = answerFor e
 moveAnswer stuck e k = stuck-answer k
 
 -- An end with its last expression.
@@ -69,12 +55,12 @@ function-value a-lambda = lambda-value
 function-value an-operator = constant-value
 function-value (an-operator-with w) = operator-value w
 
-function-answers : {v : Exp} → Function v → function-answer ≡ expAnswer v
+function-answers : {v : Exp} → Function v → function-answer ≡ answerFor v
 function-answers a-lambda = refl
 function-answers an-operator = refl
 function-answers (an-operator-with w) = refl
 
-value-ended : {e v : Exp} {a : Answer} → Steps e v → Value v → a ≡ expAnswer v → Ended e a
+value-ended : {e v : Exp} {a : Answer} → Steps e v → Value v → a ≡ answerFor v → Ended e a
 value-ended ds v p = record { last = _; node = 0; reached = ds; final = at-value v; tells = rw (value-is-move v) p }
 
 ended : {e : Exp} {a : Answer} → EndsAs e a → Ended e a

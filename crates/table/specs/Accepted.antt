@@ -10,6 +10,7 @@ use lib.Dec.{eqb, ltb}
 use lib.ListN.{length}
 use borrow.Author.Tests.{eqb-true, eqb-false, ltb-false, not-false, eq-eqb, ne-eqb, le-ltb}
 use Rattle.language.specs.Expression.{Name}
+use Rattle.language.specs.MostGeneral.{or-false}
 use Rattle.table.specs.Node.{Node, Nodes, constant-node, name-node, application-node, if-node, lambda-node, let-node, rec-node, Field, Kid, nodeAt}
 use Rattle.table.specs.Scope.{scope, firstNamed, nameOf, binderFor}
 use Rattle.table.specs.Refusals.{wrongCount, countOf, fits, timesBelow, misplaced, isSome, unbound, firstFrom, refuseAt, checkNodes, checkOf}
@@ -23,14 +24,10 @@ use Rattle.table.specs.Times.{Only, Below, counted-once, only-once}
 
 -- ---- Code 1
 
-neither : (a b : Bool) → (a || b) ≡ false → (a ≡ false) × (b ≡ false)
-neither true b h = absurd (let z : _≡_ {A = ℕ} 0 1 = cc in omega arith)
-neither false b h = (refl, h)
-
 pub right-count : (l : ℕ) → wrongCount l ≡ false → (l ≡ 4 * (l / 4)) × (0 < l / 4) × (l / 4 ≤ 512)
 right-count l h =
-    let (first, high) = neither (eqb l 0 || not (eqb (l % 4) 0)) (ltb 2048 l) h in
-    let (empty, whole) = neither (eqb l 0) (not (eqb (l % 4) 0)) first in
+    let (first, high) = or-false (eqb l 0 || not (eqb (l % 4) 0)) (ltb 2048 l) h in
+    let (empty, whole) = or-false (eqb l 0) (not (eqb (l % 4) 0)) first in
     omega (arith, eqb-false l 0 empty, eqb-true (l % 4) 0 (not-false _ whole), ltb-false 2048 l high)
 
 count-right : (l n : ℕ) → l ≡ 4 * n → 0 < n → n ≤ 512 → wrongCount l ≡ false
