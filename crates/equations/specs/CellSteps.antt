@@ -30,7 +30,7 @@ fits-beside : {ρ : Subst} {σ σ′ : Store} {i j : ℕ} {c c′ : Cell} → σ
 fits-beside {j} e n p s = fits-at s (p .others j (λ q. n (sym q)) ∙ e)
 
 -- What is true of a type is true of its equals.
-fits-equal : (ρ : Subst) {i j : ℕ} (c : Cell) → ρ i ≡ ρ j → Fits ρ j c → Fits ρ i c
+pub fits-equal : (ρ : Subst) {i j : ℕ} (c : Cell) → ρ i ≡ ρ j → Fits ρ j c → Fits ρ i c
 fits-equal ρ free e f = tt
 fits-equal ρ (link k) e f = e ∙ f
 fits-equal ρ unit-cell e f = e ∙ f
@@ -50,6 +50,17 @@ module _ {ρ : Subst} {σ σ′ : Store} {i : ℕ} where
     equal-linked e n p = (
       λ s. let q : ρ i ≡ ρ j = fits-at s (p .there) in (put-back e p s (fits-equal ρ (σ j) q (fits-beside refl n p s)), q),
       λ (s, q). put-keeps p s q,
+    )
+
+    -- What j says is copied to a free cell i, and j is linked to it.
+    pub copied-down : {σ″ : Store} → σ i ≡ free → j ≢ i → Put σ σ′ i (σ j) → Put σ′ σ″ j (link i) → (Sat ρ σ × (ρ i ≡ ρ j)) ↔ Sat ρ σ″
+    copied-down {σ″} e n p p′ = (
+      λ (s, q). put-keeps p′ (put-keeps p s (fits-equal ρ (σ j) q (s .at j))) (sym q),
+      λ s.
+          let q : ρ j ≡ ρ i = fits-at s (p′ .there) in
+          let f : Fits ρ i (σ j) = fits-beside (p .there) n p′ s in
+          let s′ : Sat ρ σ′ = put-back (p .others j n) p′ s (fits-equal ρ (σ j) q f) in
+          (put-back e p s′ tt, sym q),
     )
 
     -- An arrow is linked to an arrow, and their parts are left to be made equal.
@@ -99,5 +110,10 @@ fits-tag ρ i bool-cell h f = ap typeTag f
 fits-tag ρ i int-cell h f = ap typeTag f
 fits-tag ρ i (arrow-cell l r) h f = ap typeTag f
 
+-- A cell and something said of its type.
+pub clash-said : {ρ : Subst} {σ : Store} (i : ℕ) (c : Cell) → 1 < tag (σ i) → 1 < tag c → tag (σ i) ≢ tag c → Sat ρ σ → Fits ρ i c → ⊥
+clash-said {ρ} {σ} i c hi hc n s f = n (sym (fits-tag ρ i (σ i) hi (s .at i)) ∙ fits-tag ρ i c hc f)
+
+-- Two cells.
 pub clash : {ρ : Subst} {σ : Store} {i j : ℕ} → 1 < tag (σ i) → 1 < tag (σ j) → tag (σ i) ≢ tag (σ j) → Sat ρ σ → ρ i ≡ ρ j → ⊥
-clash {ρ} {σ} {i} {j} hi hj n s e = n (sym (fits-tag ρ i (σ i) hi (s .at i)) ∙ ap typeTag e ∙ fits-tag ρ j (σ j) hj (s .at j))
+clash {ρ} {σ} {i} {j} hi hj n s e = clash-said i (σ j) hi hj n s (fits-equal ρ (σ j) e (s .at j))
