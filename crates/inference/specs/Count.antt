@@ -93,3 +93,8 @@ count-some p (suc n) h = go (p n) refl (count-some p n)
         let some : 0 < 0 + count p n = rw q at h in
         let (i, below, is) = rest (omega arith) in
         (i, omega arith, is)
+
+pub none-counted : (p : ℕ → Bool) → ((j : ℕ) → p j ≡ false) → (n : ℕ) → count p n ≡ 0
+unfolding count
+none-counted p none zero = refl
+none-counted p none (suc n) = rw (none n, none-counted p none n)

@@ -12,7 +12,7 @@ use Rattle.equations.specs.Cells.{Cell, free, link, unit-cell, bool-cell, int-c
 use Rattle.equations.specs.CellSteps.{tag}
 use Rattle.equations.specs.Grounded.{ungrounded-has-none}
 use Rattle.inference.specs.Layout.{cellAt, pairAt, cellOf, storeOf, cellsIn, Sound, SameCells, PairPut}
-use Rattle.inference.specs.StoreLaws.{same-cells, same-then, same-beside, same-store, sound-beside, says-tag, says-free, says-link, says-arrow, links-fall}
+use Rattle.inference.specs.StoreLaws.{same-cells, same-then, same-beside, same-store, sound-beside, says-tag, says-free, says-link, says-arrow, parts-inside, links-fall}
 use Rattle.inference.specs.Count.{count, count-changed, count-bound, count-all, count-none, count-some}
 use Rattle.inference.specs.Grounding.{GroundTested, noMark, unmarked, noPair, Waits, Evaluates, Marking, LeansOrEvaluates, Settled, UnmarkedBelow, Progress}
 use Rattle.inference.specs.declared.cells.TypeCell.{TypeCell}
@@ -26,9 +26,6 @@ module _ {mem : List ℕ} (m : Marking mem) {i : ℕ} (inside : i < cellsIn mem)
       let below = m .sound .links i (rw e at t) in
       rw e (omega arith)
 
-  pub parts-inside : c .tag ≡ 5 → (c .a < cellsIn mem) × (c .b < cellsIn mem)
-  parts-inside t = rw e (m .sound .arrows i (rw e at t))
-
   pub link-leans : c .tag ≡ 1 → {waits : Bool} → waits ≡ unmarked mem (c .a) → LeansOrEvaluates mem i waits
   link-leans t {waits = true} w = on-link (says-link mem i e t) (link-inside t, sym w)
   link-leans t {waits = false} w =
@@ -36,10 +33,10 @@ module _ {mem : List ℕ} (m : Marking mem) {i : ℕ} (inside : i < cellsIn mem)
       (τ, ev-link (says-link mem i e t) d)
 
   pub arrow-leans-left : c .tag ≡ 5 → unmarked mem (c .a) ≡ true → LeansOrEvaluates mem i true
-  arrow-leans-left t w = on-left (says-arrow mem i e t) (parts-inside t .0, w)
+  arrow-leans-left t w = on-left (says-arrow mem i e t) (parts-inside (m .sound) i e t .0, w)
 
   pub arrow-leans-right : c .tag ≡ 5 → unmarked mem (c .a) ≡ false → {waits : Bool} → waits ≡ unmarked mem (c .b) → LeansOrEvaluates mem i waits
-  arrow-leans-right t marked {waits = true} w = on-right (says-arrow mem i e t) (parts-inside t .1, sym w)
+  arrow-leans-right t marked {waits = true} w = on-right (says-arrow mem i e t) (parts-inside (m .sound) i e t .1, sym w)
   arrow-leans-right t marked {waits = false} w =
       let (τ₁, d₁) = m .evaluates (c .a) marked in
       let (τ₂, d₂) = m .evaluates (c .b) (sym w) in

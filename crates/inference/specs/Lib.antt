@@ -4,6 +4,7 @@ pub mod Layout
 pub mod Count
 pub mod Solving
 pub mod Grounding
+pub mod Writing
 -- The words of cells.
 pub mod LayoutLaws
 pub mod StoreLaws
@@ -15,3 +16,8 @@ pub mod Outcomes
 pub mod Saying
 -- The test for cycles.
 pub mod GroundLaws
+-- Writing types.
+pub mod Spelling
+pub mod RootTypes
+pub mod MeasuringLaws
+pub mod WritingLaws

@@ -10,7 +10,7 @@ use Rattle.language.specs.Ty.{Ty, _⇒_, Subst}
 use Rattle.equations.specs.Cells.{Cell, arrow-cell, Fits, Sat}
 use Rattle.equations.specs.CellSteps.{fits-at, fits-equal, free-written, tag, clash-said}
 use Rattle.inference.specs.Layout.{cellAt, pairAt, cellOf, storeOf, cellsIn, Sound, CellPut, PairPut}
-use Rattle.inference.specs.StoreLaws.{store-is, store-put, Writable, sound-put, store-beside, sound-beside, tag-of, base-says, above-one, says-free, says-arrow}
+use Rattle.inference.specs.StoreLaws.{store-is, store-put, Writable, sound-put, store-beside, sound-beside, tag-of, base-says, above-one, says-free, says-arrow, parts-inside}
 use Rattle.inference.specs.Solving.{Outcome, Shortened, Pending, AllEqual, PairsInside}
 use Rattle.inference.specs.Outcomes.{outcome-after}
 use Rattle.inference.specs.declared.cells.TypeCell.{TypeCell}
@@ -61,7 +61,7 @@ module _ {before mem : List ℕ} {i r : ℕ} {c x : TypeCell} (way : Shortened b
     c-arrow = sym same ∙ arrow
 
     x-parts : (x .a < cellsIn mem) × (x .b < cellsIn mem)
-    x-parts = subst (λ (y : TypeCell). (y .a < cellsIn mem) × (y .b < cellsIn mem)) (sym x-is) (way .sound .arrows r (sym x-tag ∙ arrow))
+    x-parts = parts-inside (way .sound) r x-is arrow
 
     c-parts : (c .a < cellsIn mem) × (c .b < cellsIn mem)
     c-parts = rw (way .same-length) (ready .parts-inside c-arrow)

@@ -85,6 +85,9 @@ module _ (mem : List ℕ) (i : ℕ) {c : TypeCell} (e : c ≡ cellAt mem i) wher
   pub says-arrow : c .tag ≡ 5 → storeOf mem i ≡ arrow-cell (c .a) (c .b)
   says-arrow t = store-is mem i e ∙ rw t refl
 
+pub parts-inside : {mem : List ℕ} → Sound mem → (i : ℕ) {c : TypeCell} → c ≡ cellAt mem i → c .tag ≡ 5 → (c .a < cellsIn mem) × (c .b < cellsIn mem)
+parts-inside s i e t = rw e (s .arrows i (rw e at t))
+
 -- ---- Tags
 
 -- A cell has the tag of what it says.

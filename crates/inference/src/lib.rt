@@ -2,3 +2,4 @@
 mod cells;
 mod ground;
 mod solve;
+mod write;

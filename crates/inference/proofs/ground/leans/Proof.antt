@@ -1,7 +1,8 @@
 -- `inference::ground::leans` meets its contract: a link leans on one cell, an arrow on two, and no other cell on any.
 use mathlib.Core.Path.{sym, _∙_}
 use borrow.Author.Needs.{needs}
-use Rattle.inference.specs.GroundLaws.{link-inside, parts-inside, link-leans, arrow-leans-left, arrow-leans-right, other-evaluates}
+use Rattle.inference.specs.StoreLaws.{parts-inside}
+use Rattle.inference.specs.GroundLaws.{link-inside, link-leans, arrow-leans-left, arrow-leans-right, other-evaluates}
 use Rattle.inference.proofs.ground.leans.Statement.{statement}
 use Rattle.inference.proofs.ground.leans.Tie as tie
 
@@ -20,8 +21,8 @@ returns c =
 
 is-unmarked-requires-2 : tie.Need-is-unmarked-requires-2
 is-unmarked-requires-2 c κs =
-    let pre = c .before .before .before .before .before .before .pre in
-    parts-inside (pre .0) (pre .1) (c .before .before .before .before .get .ensures) (c .if2 .taken) .0
+    let start = c .before .before .before .before .before .before in
+    parts-inside (start .pre .0 .sound) (start .args .i) (c .before .before .before .before .get .ensures) (c .if2 .taken) .0
 
 returns-2 : tie.Need-returns-2
 returns-2 c =
@@ -30,8 +31,8 @@ returns-2 c =
 
 is-unmarked-requires-3 : tie.Need-is-unmarked-requires-3
 is-unmarked-requires-3 c κs =
-    let pre = c .before .before .before .before .before .before .before .before .pre in
-    parts-inside (pre .0) (pre .1) (c .before .before .before .before .before .before .get .ensures) (c .before .before .if2 .taken) .1
+    let start = c .before .before .before .before .before .before .before .before in
+    parts-inside (start .pre .0 .sound) (start .args .i) (c .before .before .before .before .before .before .get .ensures) (c .before .before .if2 .taken) .1
 
 returns-3 : tie.Need-returns-3
 returns-3 c =

@@ -1,0 +1,111 @@
+-- The written type of a cell: how long it is, and what is written where.
+use Prim.Native.Nat.{ℕ, suc, _+_, _-_, _≤_, _<_}
+use mathlib.Core.Path.{_≡_}
+use mathlib.Core.Bool.{Bool, not, cond}
+use mathlib.Core.Logic.{_≢_}
+use mathlib.Core.List.{List, [], _∷_, _++_}
+use lib.Dec.{eqb}
+use lib.ListN.{length, drop}
+use lib.Seq.{sets}
+use Rattle.language.specs.Ty.{Ty}
+use Rattle.language.specs.Unification.{size}
+use Rattle.language.specs.WrittenForm.{occurs, appearing, placeIn, spell, wordsOf}
+use Rattle.equations.specs.Cells.{Ev}
+use Rattle.inference.specs.Layout.{cellAt, pairAt, cellsIn, storeOf, Sound}
+use Rattle.inference.specs.Count.{count}
+use Rattle.inference.specs.declared.write.Room.{Room}
+use Rattle.inference.specs.declared.write.Room.the-variants.{Left, Over}
+use Rattle.inference.specs.declared.write.Rest.{Rest}
+use Rattle.inference.specs.declared.write.Word.{Word}
+
+-- ---- The contract of writing
+
+-- So many words are taken from the room, or the room is less.
+abbrev pub Taken : ℕ → ℕ → Room → Type 0
+Taken words room (Left left) = words + left ≡ room
+Taken words room Over = room < words
+
+-- A type is at the beginning of the slice and all later words are as they were, or it has more words than the slice and none was written.
+abbrev pub TypeWritten : List ℕ → List ℕ → List ℕ → Room → Type 0
+TypeWritten type before after (Left left) = (length type + left ≡ length before) × (after ≡ type ++ drop (length type) before)
+TypeWritten type before after Over = (length before < length type) × (after ≡ before)
+
+-- The same for the type that cell i evaluates to.
+pub record CellWritten (cells : List ℕ) (i : ℕ) (before after : List ℕ) (r : Room) : Type 0 where
+  pub is : (τ : Ty) → Ev (storeOf cells) i τ → TypeWritten (wordsOf τ) before after r
+
+-- ---- Following links and measuring
+
+-- Cell r is no link, and evaluates as cell i does.
+pub record Root (cells : List ℕ) (i r : ℕ) : Type 0 where
+  pub below : r ≤ i
+  pub no-link : cellAt cells r .tag ≢ 1
+  pub same : (τ : Ty) → Ev (storeOf cells) i τ → Ev (storeOf cells) r τ
+
+-- Less than the room is left.
+abbrev pub Fallen : ℕ → Room → Type 0
+Fallen room (Left left) = left < room
+Fallen room Over = Unit
+
+pub record Measured (cells : List ℕ) (i room : ℕ) (r : Room) : Type 0 where
+  pub falls : Fallen room r
+  pub takes : (τ : Ty) → Ev (storeOf cells) i τ → Taken (size τ) room r
+
+-- ---- Numbering
+
+-- Variables that were seen have their place plus one, all others have 0.
+unfoldable pub numberIn : List ℕ → ℕ → ℕ
+numberIn seen α = cond (occurs α seen) (suc (placeIn seen α)) 0
+
+-- Those numbers stand beside the cells.
+pub record Numbers (cells : List ℕ) (numbered : ℕ) (seen : List ℕ) : Type 0 where
+  pub beside : (α : ℕ) → pairAt cells α .right ≡ numberIn seen α
+  pub as-many : length seen ≡ numbered
+
+abbrev pub hasNumber : List ℕ → ℕ → Bool
+hasNumber cells i = not (eqb (pairAt cells i .right) 0)
+
+-- So many cells have a number, and none has a greater one.
+pub record Ready (cells : List ℕ) (numbered : ℕ) : Type 0 where
+  pub sound : Sound cells
+  pub counted : numbered ≡ count (hasNumber cells) (cellsIn cells)
+  pub small : (i : ℕ) → pairAt cells i .right ≤ numbered
+
+-- Nothing but numbers was written.
+pub record Kept (before after : List ℕ) (numbered : ℕ) : Type 0 where
+  pub ready : Ready after numbered
+  pub same-length : length after ≡ length before
+  pub same-store : storeOf after ≡ storeOf before
+
+-- ---- Writing
+
+-- The words of a type, after other variables were seen.
+abbrev pub wordsAfter : List ℕ → Ty → List ℕ
+wordsAfter seen τ = spell (placeIn (appearing seen τ)) τ
+
+-- A cell of a base type or a variable.
+pub record LeafCell (cells : List ℕ) (r : ℕ) : Type 0 where
+  pub inside : r < cellsIn cells
+  pub no-link : cellAt cells r .tag ≢ 1
+  pub no-arrow : cellAt cells r .tag ≢ 5
+
+-- The type has this one word, and its variable is numbered.
+pub record OneWord (seen : List ℕ) (τ : Ty) (after : List ℕ) (w : Word) : Type 0 where
+  pub is : wordsAfter seen τ ≡ w .word ∷ []
+  pub numbers : Numbers after (w .numbered) (appearing seen τ)
+
+pub record LeafSpelled (before : List ℕ) (numbered r : ℕ) (after : List ℕ) (w : Word) : Type 0 where
+  pub kept : Kept before after (w .numbered)
+  pub spelled : (seen : List ℕ) (τ : Ty) → Numbers before numbered seen → Ev (storeOf before) r τ → OneWord seen τ after w
+
+-- The words of the type are the next ones, and its variables are numbered.
+pub record WordsPut (seen : List ℕ) (τ : Ty) (left : ℕ) (before after cells : List ℕ) (rest : Rest) : Type 0 where
+  pub taken : rest .left + size τ ≡ left
+  pub numbers : Numbers cells (rest .numbered) (appearing seen τ)
+  pub put : after ≡ sets before (length before - left) (wordsAfter seen τ)
+
+pub record Wrote (cells : List ℕ) (i : ℕ) (out : List ℕ) (left numbered : ℕ) (cells′ out′ : List ℕ) (rest : Rest) : Type 0 where
+  pub kept : Kept cells cells′ (rest .numbered)
+  pub no-more : rest .left ≤ left
+  pub same-length : length out′ ≡ length out
+  pub written : (seen : List ℕ) (τ : Ty) → Numbers cells numbered seen → Ev (storeOf cells) i τ → size τ ≤ left → WordsPut seen τ left out out′ cells′ rest
