@@ -15,4 +15,3 @@ pub mod CellSteps
 pub mod Grounded
 -- Inference by the textbook's unification.
 pub mod Inferred
-pub mod Examples

@@ -3,8 +3,10 @@
 pub mod Layout
 pub mod Count
 pub mod Solving
+pub mod TableCells
 pub mod Grounding
 pub mod Writing
+pub mod Inference
 -- The words of cells.
 pub mod LayoutLaws
 pub mod StoreLaws
@@ -14,6 +16,8 @@ pub mod Meetings
 pub mod SolvingLaws
 pub mod Outcomes
 pub mod Saying
+-- The rules.
+pub mod RuleLaws
 -- The test for cycles.
 pub mod GroundLaws
 -- Writing types.
@@ -21,3 +25,7 @@ pub mod Spelling
 pub mod RootTypes
 pub mod MeasuringLaws
 pub mod WritingLaws
+-- The answer.
+pub mod Textbook
+pub mod InferenceOnce
+pub mod Examples

@@ -1,13 +1,13 @@
 -- Outcomes put together.
-use mathlib.Core.Path.{_≡_, refl, _∙_}
+use mathlib.Core.Path.{_≡_, refl, _∙_, subst}
 use mathlib.Core.Bool.{Bool, true, false}
 use mathlib.Core.Logic.{_↔_}
 use mathlib.Core.List.{List}
-use Prim.Native.Nat.{ℕ}
+use Prim.Native.Nat.{ℕ, _<_}
 use lib.ListN.{length}
 use Rattle.language.specs.Ty.{Subst}
 use Rattle.equations.specs.Cells.{Sat}
-use Rattle.inference.specs.Layout.{storeOf}
+use Rattle.inference.specs.Layout.{storeOf, cellsIn}
 use Rattle.inference.specs.Solving.{MetOrNone, Outcome}
 
 -- A demand before a change is another after it.
@@ -29,3 +29,10 @@ outcome-then ok o = outcome-after ok (o .same-length) (λ ρ. (λ (h, (d, e)). (
 
 pub outcome-fails : {before after : List ℕ} {D E : Subst → Type 0} → Outcome before after D false → Outcome before after (λ ρ. D ρ × E ρ) false
 outcome-fails o = record { same-length = o .same-length; says = λ ρ h (d, e). o .says ρ h d }
+
+pub outcome-is : {before after : List ℕ} {D : Subst → Type 0} {ok ok′ : Bool} → Outcome before after D ok → ok ≡ ok′ → Outcome before after D ok′
+outcome-is {before} {after} {D} o e = subst (Outcome before after D) e o
+
+-- Where a demand was met, the cells are as many as before.
+pub still-inside : {before after : List ℕ} {D : Subst → Type 0} {ok : Bool} → Outcome before after D ok → (i : ℕ) → i < cellsIn before → i < cellsIn after
+still-inside o i h = rw (o .same-length) h

@@ -1,6 +1,6 @@
 -- The walk in search of a binder, one node at a time.
-use Prim.Native.Nat.{ℕ, suc, _-_, _<_}
-use mathlib.Core.Path.{_≡_, refl, _∙_, ap}
+use Prim.Native.Nat.{ℕ, zero, suc, _-_, _<_}
+use mathlib.Core.Path.{_≡_, refl, sym, _∙_, ap}
 use mathlib.Core.Bool.{Bool, true, false, not, cond, _&&_}
 use mathlib.Core.List.{[], _∷_}
 use mathlib.Core.Option.{Option, none, some}
@@ -45,6 +45,19 @@ module _ (nd : Nodes) (x : Name) where
   found-down k p h m e =
       let down : p ≡ suc (p - 1) = omega arith in
       ap (foundBelow nd x k) down ∙ found-next k (p - 1) ∙ ap (λ m. onwards m k (p - 1)) e
+
+  -- A binder has a smaller number than what it binds.
+  pub found-below : (p k : ℕ) {b : ℕ} → foundBelow nd x k p ≡ some b → b < p
+  unfolding climbFrom firstNamed
+  found-below zero k e = absurd (let z : _≡_ {A = ℕ} 0 1 = cc in omega arith)
+  found-below (suc p) k {b} e = go (met (nd p) x k) (sym (found-next k p) ∙ e) (λ j h. found-below p j h)
+    where
+      go : (m : Met) → onwards m k p ≡ some b → ((j : ℕ) → foundBelow nd x j p ≡ some b → b < p) → b < suc p
+      go Elsewhere h rest = omega (arith, rest k h)
+      go Above h rest = omega (arith, rest p h)
+      go Binding h rest =
+          let same : p ≡ b = cc in
+          omega arith
 
 -- A name that is bound nowhere has no binder.
 pub nowhere-is-none : (o : Option ℕ) → isNowhere (binderAnswer o) ≡ not (isSome o)

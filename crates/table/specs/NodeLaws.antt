@@ -1,6 +1,6 @@
 -- A node read from its words, kind by kind, where the code treats several kinds alike.
 use Prim.Native.Nat.{ℕ, zero, suc, _+_, _*_}
-use mathlib.Core.Path.{_≡_, refl}
+use mathlib.Core.Path.{_≡_, refl, sym, _∙_, ap}
 use mathlib.Core.Logic.{_⊎_, inl, inr}
 use mathlib.Core.Bool.{Bool, true, false, cond}
 use mathlib.Core.List.{List}
@@ -11,8 +11,15 @@ use Rattle.language.specs.Expression.{Constant, Name}
 use Rattle.table.specs.Node.{Node, constant-node, name-node, application-node, if-node, lambda-node, let-node, rec-node, Field, field-a, field-b, field-c, wordAt, nodeOf, nodeAt}
 use Rattle.table.specs.Scope.{bindsIn, isNamed, nameOf}
 use Rattle.table.specs.Refusals.{once, timesIn}
-use Rattle.table.specs.Reading.{metIn, met, aboveIf, bindingIf, letMet}
+use Rattle.table.specs.Reading.{wordsAt, nodeIn, metIn, met, aboveIf, bindingIf, letMet}
+use Rattle.table.specs.declared.NodeWords.{NodeWords}
 use Rattle.table.specs.declared.Met.the-variants.{Elsewhere}
+
+-- ---- Nodes by their kind
+
+pub reads-as : (words : List ℕ) (k : ℕ) {w : NodeWords} {kind : ℕ} → w ≡ wordsAt words k → w .kind ≡ kind → nodeAt words k ≡ nodeOf kind (w .a) (w .b) (w .c)
+unfolding nodeAt
+reads-as words k {w} read e = ap nodeIn (sym read) ∙ ap (λ t. nodeOf t (w .a) (w .b) (w .c)) e
 
 -- ---- Nodes without children
 

@@ -1,0 +1,98 @@
+-- Nothing of inference's answer is left open: no two answers may be given, and each code of its own, 0 and 5 to 7, is answered exactly in
+-- its case.
+use Prim.Native.Nat.{ℕ, _≤_, _<_}
+use mathlib.Core.Path.{_≡_, refl, sym, _∙_, ap, subst}
+use mathlib.Core.Bool.{not}
+use mathlib.Core.List.{List, [], _∷_}
+use mathlib.Core.Logic.{_↔_}
+use mathlib.Core.Option.{Option, none, some}
+use native.Mathlib.Omega.{arith}
+use lib.ListN.{length, getD}
+use Rattle.language.specs.Ty.{Ty}
+use Rattle.language.specs.Environment.{empty}
+use Rattle.language.specs.Typing.{Has}
+use Rattle.language.specs.Principal.{Principal}
+use Rattle.language.specs.WrittenForm.{wordsOf}
+use Rattle.table.specs.Node.{nodeAt}
+use Rattle.table.specs.Refusals.{miscount, countOf, fits, misplaced, unbound, firstFrom, refuseAt, checkOf}
+use Rattle.table.specs.ExpressionOf.{expOf}
+use Rattle.table.specs.declared.Verdict.{Verdict}
+use Rattle.table.specs.declared.Verdict.the-variants.{Nodes as Accepted, Refused as Turned}
+use Rattle.inference.specs.Inference.{codeOf, workFor, After, Infers, turned, work-short, no-type, out-short, typed}
+use Rattle.inference.specs.Textbook.{infers-textbook}
+
+pub infers-once : {words work out : List ℕ} {a b : After} → Infers words work out a → Infers words work out b → a ≡ b
+infers-once i j = infers-textbook i ∙ sym (infers-textbook j)
+
+-- ---- The check's codes
+
+module _ (P : ℕ → Type 0) (p₁ : P 1) (p₂ : P 2) (p₃ : P 3) (p₄ : P 4) where
+  abbrev OfItsCode : Verdict → Type 0
+  OfItsCode (Accepted n) = Unit {0}
+  OfItsCode (Turned code place) = P code
+
+  first-fault-decides : (f₁ f₂ f₃ f₄ : Option ℕ) (n : ℕ) → OfItsCode (refuseAt 1 f₁ (refuseAt 2 f₂ (refuseAt 3 f₃ (refuseAt 4 f₄ (Accepted n)))))
+  first-fault-decides (some k) f₂ f₃ f₄ n = p₁
+  first-fault-decides none (some k) f₃ f₄ n = p₂
+  first-fault-decides none none (some k) f₄ n = p₃
+  first-fault-decides none none none (some k) n = p₄
+  first-fault-decides none none none none n = tt
+
+  -- What is true of 1 to 4 is true of the code of every refusal.
+  true-of-refusal-code : (words : List ℕ) {code place : ℕ} → checkOf words ≡ Turned code place → P code
+  unfolding checkOf
+  true-of-refusal-code words v =
+      let n = countOf words in
+      let misfit = firstFrom (λ k. not (fits words n k)) n 0 in
+      let stray = firstFrom (misplaced (nodeAt words) n) n 0 in
+      let nameless = firstFrom (unbound (nodeAt words)) n 0 in
+      subst OfItsCode v (first-fault-decides (miscount (length words)) misfit stray nameless n)
+
+pub refusal-code : (words : List ℕ) {code place : ℕ} → checkOf words ≡ Turned code place → (1 ≤ code) × (code ≤ 4)
+refusal-code = true-of-refusal-code (λ code. (1 ≤ code) × (code ≤ 4)) (omega arith) (omega arith) (omega arith) (omega arith)
+
+-- ---- The case of each other code
+
+module _ (words work : List ℕ) where
+  abbrev pub WorkShort : Type 0
+  WorkShort = (n : ℕ) × (checkOf words ≡ Accepted n) × (length work < workFor n)
+
+  abbrev pub NoType : Type 0
+  NoType = (n : ℕ) × (checkOf words ≡ Accepted n) × (workFor n ≤ length work) × ((τ : Ty) → ¬ Has empty (expOf words) τ)
+
+  module _ (out : List ℕ) where
+    abbrev pub OutShort : Type 0
+    OutShort = (n : ℕ) × (τ : Ty) × (checkOf words ≡ Accepted n) × (workFor n ≤ length work) × Principal empty (expOf words) τ × (length out < length (wordsOf τ))
+
+    abbrev pub TypeFits : Type 0
+    TypeFits = (n : ℕ) × (τ : Ty) × (checkOf words ≡ Accepted n) × (workFor n ≤ length work) × Principal empty (expOf words) τ × (length (wordsOf τ) ≤ length out)
+
+    -- By code; of the check's own codes nothing is claimed here.
+    abbrev CaseOf : ℕ → Type 0
+    CaseOf code = getD (TypeFits ∷ Unit {0} ∷ Unit {0} ∷ Unit {0} ∷ Unit {0} ∷ WorkShort ∷ NoType ∷ OutShort ∷ []) code (Unit {0})
+
+    in-case : {a : After} → Infers words work out a → CaseOf (codeOf (a .answer))
+    in-case (turned v is) = rw is (true-of-refusal-code CaseOf tt tt tt tt words v)
+    in-case (work-short {n} v short is) = rw is (n, v, short)
+    in-case (no-type {n} v enough untyped is) = rw is (n, v, enough, untyped)
+    in-case (out-short {n} {τ} v enough p short is) = rw is (n, τ, v, enough, p, short)
+    in-case (typed {n} {τ} v enough p fits is) = rw is (n, τ, v, enough, p, fits)
+
+module _ {words work out : List ℕ} {a : After} (i : Infers words work out a) where
+  case-of : {code : ℕ} → codeOf (a .answer) ≡ code → CaseOf words work out code
+  case-of e = subst (CaseOf words work out) e (in-case words work out i)
+
+  same-code : {b : After} → Infers words work out b → codeOf (a .answer) ≡ codeOf (b .answer)
+  same-code j = ap (λ x. codeOf (x .answer)) (infers-once i j)
+
+  pub code-5-exactly : (codeOf (a .answer) ≡ 5) ↔ WorkShort words work
+  code-5-exactly = (case-of, λ (n, v, short). same-code (work-short v short refl))
+
+  pub code-6-exactly : (codeOf (a .answer) ≡ 6) ↔ NoType words work
+  code-6-exactly = (case-of, λ (n, v, enough, untyped). same-code (no-type v enough untyped refl))
+
+  pub code-7-exactly : (codeOf (a .answer) ≡ 7) ↔ OutShort words work out
+  code-7-exactly = (case-of, λ (n, τ, v, enough, p, short). same-code (out-short v enough p short refl))
+
+  pub code-0-exactly : (codeOf (a .answer) ≡ 0) ↔ TypeFits words work out
+  code-0-exactly = (case-of, λ (n, τ, v, enough, p, fits). same-code (typed v enough p fits refl))
