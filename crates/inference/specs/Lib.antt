@@ -18,6 +18,7 @@ pub mod Outcomes
 pub mod Saying
 -- The rules.
 pub mod RuleLaws
+pub mod TableLaws
 -- The test for cycles.
 pub mod GroundLaws
 -- Writing types.

@@ -7,7 +7,7 @@ use mathlib.Core.List.{List}
 use native.Mathlib.Omega.{arith}
 use lib.ListN.{length}
 use Rattle.language.specs.Ty.{Ty, _⇒_, Subst}
-use Rattle.equations.specs.Cells.{Cell, arrow-cell, Fits, Sat}
+use Rattle.equations.specs.Cells.{free, arrow-cell, Fits, Sat}
 use Rattle.equations.specs.CellSteps.{fits-at, fits-equal, free-written, tag, clash-said}
 use Rattle.inference.specs.Layout.{cellAt, pairAt, cellOf, storeOf, cellsIn, Sound, CellPut, PairPut}
 use Rattle.inference.specs.StoreLaws.{store-is, store-put, Writable, sound-put, store-beside, sound-beside, tag-of, base-says, above-one, says-free, says-arrow, parts-inside}
@@ -15,6 +15,13 @@ use Rattle.inference.specs.Solving.{Outcome, Shortened, Pending, AllEqua
 use Rattle.inference.specs.Outcomes.{outcome-after}
 use Rattle.inference.specs.declared.cells.TypeCell.{TypeCell}
 use Rattle.inference.specs.declared.cells.Pair.{Pair}
+
+-- Something is said of a free cell.
+pub free-said : {mem after : List ℕ} {i : ℕ} {c : TypeCell} → Sound mem → storeOf mem i ≡ free → Writable (cellsIn mem) i c → CellPut mem after i c → Outcome mem after (λ ρ. Fits ρ i (cellOf c)) true
+free-said s e w p = record {
+  same-length = p .same-length;
+  says = record { sound = sound-put s p w; keeps = λ ρ. let (to, from) = free-written {ρ = ρ} e (store-put p) in (from, to) };
+}
 
 module _ {before mem : List ℕ} {i r : ℕ} {c x : TypeCell} (way : Shortened before mem i r) (root : cellAt mem r .tag ≢ 1) (x-is : x ≡ cellAt mem r) (built : 1 < c .tag) (ready : Writable (cellsIn before) i c) where
   -- What is said of the cell is said of its root.
@@ -28,16 +35,9 @@ module _ {before mem : List ℕ} {i r : ℕ} {c x : TypeCell} (way : Shortened b
   x-tag = ap (λ (y : TypeCell). y .tag) x-is
 
   pub said-of-free : {after : List ℕ} → x .tag ≡ 0 → CellPut mem after r c → Outcome before after (λ ρ. Fits ρ i (cellOf c)) true
-  said-of-free {after} e p =
-      outcome-after true (way .same-length) at-root
-      (record {
-        same-length = p .same-length;
-        says =
-          record {
-            sound = sound-put (way .sound) p (record { tag-known = ready .tag-known; link-down = λ l. absurd (omega arith); parts-inside = rw (way .same-length) (ready .parts-inside) });
-            keeps = λ ρ. let (to, from) = free-written {ρ = ρ} (says-free mem r x-is e) (store-put p) in (from, to);
-          };
-      })
+  said-of-free e p =
+      let writable : Writable (cellsIn mem) r c = record { tag-known = ready .tag-known; link-down = λ l. absurd (omega arith); parts-inside = rw (way .same-length) (ready .parts-inside) } in
+      outcome-after true (way .same-length) at-root (free-said (way .sound) (says-free mem r x-is e) writable p)
 
   pub said-otherwise : x .tag ≢ 0 → x .tag ≢ c .tag → Outcome before mem (λ ρ. Fits ρ i (cellOf c)) false
   said-otherwise n d =

@@ -1,6 +1,6 @@
 -- The cells of a table: four constants, then two for each node, for its type and for the type of the name that it binds. So the cell of
 -- an unknown is its number and 4.
-use Prim.Native.Nat.{ℕ, _+_, _*_, _<_}
+use Prim.Native.Nat.{ℕ, _+_, _*_, _≤_, _<_}
 use mathlib.Core.Path.{_≡_}
 use mathlib.Core.Bool.{cond}
 use mathlib.Core.List.{List}
@@ -14,7 +14,7 @@ use Rattle.table.specs.Refusals.{countOf}
 use Rattle.table.specs.Tree.{Tree}
 use Rattle.equations.specs.Cells.{Sat}
 use Rattle.equations.specs.Equations.{nodeVar, nameVar, nameEquations, equationsAt, equationsBelow}
-use Rattle.inference.specs.Layout.{storeOf, cellsIn, Sound}
+use Rattle.inference.specs.Layout.{cellAt, storeOf, cellsIn, Sound}
 
 abbrev pub typeCell : ℕ → ℕ
 typeCell k = nodeVar k + 4
@@ -53,10 +53,29 @@ NameSolved words k ρ = Solves (unknowns ρ) (nameEquations k (binderOf (nodeAt 
 
 -- Those of the nodes below k.
 abbrev pub NodesSolved : List ℕ → ℕ → Subst → Type 0
-NodesSolved words k ρ = Constants ρ × Solves (unknowns ρ) (equationsBelow (nodeAt words) k)
+NodesSolved words k ρ = Solves (unknowns ρ) (equationsBelow (nodeAt words) k)
 
--- A node of a table that is a tree, with cells for it.
+-- A table of n nodes that is a tree, with cells for it; and a node of it.
+pub record NodesReady (words : List ℕ) (n : ℕ) (mem : List ℕ) : Type 0 where
+  pub counted : n ≡ countOf words
+  pub tree : Tree (nodeAt words) n
+  pub cells : CellsFor n mem
+
 pub record NodeReady (words : List ℕ) (k : ℕ) (mem : List ℕ) : Type 0 where
   pub tree : Tree (nodeAt words) (countOf words)
   pub below : k < countOf words
   pub cells : CellsFor (countOf words) mem
+
+-- ---- At first
+
+-- All cells are free, and there are enough for the constants.
+pub record AllFree (mem : List ℕ) : Type 0 where
+  pub zero : (i : ℕ) → cellAt mem i ≡ record { tag = 0; a = 0; b = 0 }
+  pub small : cellsIn mem ≤ 4096
+  pub enough : 3 < cellsIn mem
+
+pub record TableReady (words : List ℕ) (n : ℕ) (mem : List ℕ) : Type 0 where
+  pub counted : n ≡ countOf words
+  pub tree : Tree (nodeAt words) n
+  pub cells : AllFree mem
+  pub whole : length mem ≡ 5 * (2 * n + 4)

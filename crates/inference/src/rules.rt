@@ -1,15 +1,17 @@
 // The equations of a table: each node contributes those of its rule. Cells 0 to 3 are bool, int, int → int and int → bool; after them
 // each node has a cell for its type and one for the type of the name that it binds.
 use crate::cells::TypeCell;
+use crate::cells::put;
 use crate::solve::join;
 use crate::solve::say;
 use table::Bound;
 ghost use Prim.Native.Nat.{_≤_, _<_};
 ghost use mathlib.Core.Path.{_≡_};
+ghost use mathlib.Core.Bool.{true};
 ghost use Rattle.language.specs.Ty.{bool, _⇒_};
 ghost use Rattle.inference.specs.Layout.{cellsIn, Sound};
 ghost use Rattle.inference.specs.Solving.{Outcome};
-ghost use Rattle.inference.specs.TableCells.{typeCell, nameCell, givesCell, NodeReady, NameSolved, NodeSolved};
+ghost use Rattle.inference.specs.TableCells.{typeCell, nameCell, Constants, givesCell, NodeReady, NameSolved, NodeSolved, NodesReady, NodesSolved, AllFree, TableReady};
 
 fn type_cell(k: u32) -> u32
     requires { ⌜ k ≤ 4096 ⌝ }
@@ -103,4 +105,40 @@ pub(crate) fn node(words: &[u32], cells: &mut [u32], k: u32) -> bool
         // An unknown kind, which no checked table has, reads as unit.
         _ => say(cells, t, TypeCell { tag: 2, a: 0, b: 0 }),
     }
+}
+
+// The four constants, in cells that are all free.
+fn constants(cells: &mut [u32])
+    requires { ⌜ AllFree (now cells) ⌝ }
+    ensures { λ r. ⌜ Outcome (now (cells .entry)) (now (cells .exit)) Constants true ⌝ }
+{
+    put(cells, 0, TypeCell { tag: 3, a: 0, b: 0 });
+    put(cells, 1, TypeCell { tag: 4, a: 0, b: 0 });
+    put(cells, 2, TypeCell { tag: 5, a: 1, b: 1 });
+    put(cells, 3, TypeCell { tag: 5, a: 1, b: 0 });
+}
+
+// The equations of all nodes, one after the other.
+fn nodes(words: &[u32], cells: &mut [u32], n: u32) -> bool
+    requires { ⌜ NodesReady (now words) n (now cells) ⌝ }
+    ensures { λ ok. ⌜ Outcome (now (cells .entry)) (now (cells .exit)) (NodesSolved (now (words .entry)) n) ok ⌝ }
+{
+    let mut k: u32 = 0;
+    while k < n {
+        if node(words, cells, k) {
+            k += 1;
+        } else {
+            return false;
+        }
+    }
+    true
+}
+
+// The equations of a table, in cells that are all free: can they be solved without a clash?
+pub(crate) fn solve_table(words: &[u32], cells: &mut [u32], n: u32) -> bool
+    requires { ⌜ TableReady (now words) n (now cells) ⌝ }
+    ensures { λ ok. ⌜ Outcome (now (cells .entry)) (now (cells .exit)) (λ ρ. Constants ρ × NodesSolved (now (words .entry)) n ρ) ok ⌝ }
+{
+    constants(cells);
+    nodes(words, cells, n)
 }

@@ -1,0 +1,28 @@
+-- `inference::rules::constants` meets its contract.
+use Rattle.inference.specs.TableLaws.{constants-said}
+use borrow.Author.Needs.{needs}
+use Rattle.inference.proofs.rules.constants.Statement.{statement}
+use Rattle.inference.proofs.rules.constants.Tie as tie
+
+put-requires : tie.Need-put-requires
+put-requires c κs = search needs
+
+put-requires-2 : tie.Need-put-requires-2
+put-requires-2 c κs = search needs
+
+put-requires-3 : tie.Need-put-requires-3
+put-requires-3 c κs = search needs
+
+put-requires-4 : tie.Need-put-requires-4
+put-requires-4 c κs = search needs
+
+same-length : tie.Need-same-length
+same-length c = search needs
+
+returns : tie.Need-returns
+returns c = constants-said (c .before .before .before .before .before .before .before .before .before .before .before .before .before .before .before .before .before .pre) (c .before .before .before .before .before .before .before .before .before .before .before .before .before .before .put .ensures) (c .before .before .before .before .before .before .before .before .before .before .put2 .ensures) (c .before .before .before .before .before .before .put3 .ensures) (c .before .before .put4 .ensures)
+
+pub constants-spec : {M : Type 1} → statement M
+constants-spec =
+    tie.close
+    (tie.spec put-requires put-requires-2 put-requires-3 put-requires-4 same-length returns)

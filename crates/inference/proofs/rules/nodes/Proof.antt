@@ -1,0 +1,63 @@
+-- `inference::rules::nodes` meets its contract. The loop's invariant: the equations of the nodes before k are solved.
+use Prim.Native.Nat.{_-_, _≤_}
+use mathlib.Core.Path.{_≡_, _∙_}
+use mathlib.Core.Bool.{true}
+use native.Mathlib.Omega.{arith}
+use Rattle.inference.specs.Solving.{Outcome}
+use Rattle.inference.specs.Outcomes.{outcome-is}
+use Rattle.inference.specs.TableCells.{NodesSolved}
+use Rattle.inference.specs.TableLaws.{no-node-yet, next-ready, node-solved-too, node-fails}
+use Rattle.inference.proofs.rules.nodes.Statement.{statement}
+use Rattle.inference.proofs.rules.nodes.Tie as tie
+
+abbrev Inv-loop : tie.InvT-loop
+Inv-loop words cells₀ n k₀ cells k = (k ≤ n) × Outcome cells₀ cells (NodesSolved words k) true
+
+abbrev μ-loop : tie.MeasureT-loop
+μ-loop words cells₀ n k₀ cells k = n - k
+
+loop-holds : tie.Need-loop-holds Inv-loop μ-loop
+loop-holds c = (omega arith, no-node-yet (c .before .before .pre))
+
+node-requires : tie.Need-node-requires Inv-loop μ-loop
+node-requires c κs = next-ready (c .before .before .before .before .before .pre) (c .before .loop-test .taken) (c .before .before .loop .inv .1)
+
+add-k : tie.Need-add-k Inv-loop μ-loop
+add-k c = omega arith
+
+loop-less : tie.Need-loop-less Inv-loop μ-loop
+loop-less c = omega arith
+
+loop-again : tie.Need-loop-again Inv-loop μ-loop
+loop-again c = (omega arith, node-solved-too (c .before .before .before .before .before .before .before .before .before .pre) (c .before .before .before .before .before .loop-test .taken) (c .before .before .before .before .before .before .loop .inv .1) (outcome-is (c .before .before .before .node .ensures) (c .if1 .taken)))
+
+same-length : tie.Need-same-length Inv-loop μ-loop
+same-length c = c .before .before .before .node .ensures .same-length ∙ c .before .before .before .before .before .before .loop .inv .1 .same-length
+
+returns : tie.Need-returns Inv-loop μ-loop
+returns c = node-fails (c .before .before .before .before .before .before .before .before .before .pre) (c .before .before .before .before .before .loop-test .taken) (c .before .before .before .before .before .before .loop .inv .1) (outcome-is (c .before .before .before .node .ensures) (c .if1 .left))
+
+same-length-2 : tie.Need-same-length-2 Inv-loop μ-loop
+same-length-2 c = c .before .loop .inv .1 .same-length
+
+returns-2 : tie.Need-returns-2 Inv-loop μ-loop
+returns-2 c =
+    let low = c .before .loop .inv .0 in
+    let all : c .before .loop .k ≡ c .before .before .before .before .args .n = omega arith in
+    rw all at (c .before .loop .inv .1)
+
+pub nodes-spec : {M : Type 1} → statement M
+nodes-spec =
+    tie.close
+    (tie.spec
+    Inv-loop
+    μ-loop
+    loop-holds
+    node-requires
+    add-k
+    loop-less
+    loop-again
+    same-length
+    returns
+    same-length-2
+    returns-2)

@@ -1,0 +1,3 @@
+-- Lent slices of words.
+pub mod Zeroing
+pub mod Prefix
