@@ -217,3 +217,6 @@ module _ {before : List ℕ} (n : ℕ) (whole : length before ≡ 5 * n) where
               let same-length = s .same .same-length in
               s .marking .evaluates i (count-none (unmarked mem) (cellsIn mem) (s .counted ∙ none-left) i (omega arith))
           go (no h) = (var i, ev-free (says-free mem i refl (word-past-the-end (s .same) (5 * i) (omega arith))))
+
+pub ground-tested-is : {before after : List ℕ} {ok ok′ : Bool} → GroundTested before after ok → ok ≡ ok′ → GroundTested before after ok′
+ground-tested-is {before} {after} g e = subst (GroundTested before after) e g

@@ -27,6 +27,8 @@ pub mod RootTypes
 pub mod MeasuringLaws
 pub mod WritingLaws
 -- The answer.
+pub mod Principality
+pub mod InferCall
 pub mod Textbook
 pub mod InferenceOnce
 pub mod Examples

@@ -123,8 +123,7 @@ module _ {before : List ℕ} {i j : ℕ} {low high : TypeCell} (two : TwoRoots b
       where
         keeps : (ρ : Subst) → (Sat ρ (storeOf before) × (ρ i ≡ ρ j)) ↔ (Sat ρ (storeOf after) × ((ρ (low .a) ≡ ρ (high .a)) × (ρ (low .b) ≡ ρ (high .b))))
         keeps ρ =
-            let (to, from) = arrow-linked {ρ = ρ} (says-arrow before j high-is e′) (says-arrow before i low-is e) (omega arith) (store-put q) in
-            (
+            let (to, from) = arrow-linked {ρ = ρ} (says-arrow before j high-is e′) (says-arrow before i low-is e) (omega arith) (store-put q) in (
               λ (h, p). let (h′, l, r) = to (h, sym p) in (h′, (sym l, sym r)),
               λ (h, (l, r)). let (h′, p) = from (h, sym l, sym r) in (h′, sym p),
             )

@@ -162,7 +162,7 @@ module _ {words : List ℕ} {k : ℕ} {mem after : List ℕ} (r : NodeReady word
   unfolding nodeOf apply
   operator-solved e = by-rule (reads-as words k read e) (λ ρ s.
       let is : ρ 1 ⇒ ρ (givesCell (w .a)) ≡ apply (unknowns ρ) (typeOf (operator (operatorAt (w .a)))) =
-          operator-type (r .cells .constants ρ s) (w .a) ∙ sym (constants-have-no-variable (unknowns ρ) (operator (operatorAt (w .a)))) in
+      operator-type (r .cells .constants ρ s) (w .a) ∙ sym (constants-have-no-variable (unknowns ρ) (operator (operatorAt (w .a)))) in
       (λ q. first-solved q ∙ sym is, λ q. also (q ∙ is) none-left))
 
   -- (ID)

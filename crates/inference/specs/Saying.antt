@@ -71,7 +71,7 @@ module _ {before mem : List ℕ} {i r : ℕ} {c x : TypeCell} (way : Shortened b
         let (xa, xb) = x-parts in
         let (ca, cb) = c-parts in
         let newest : (pairAt put 0 .left < cellsIn put) × (pairAt put 0 .right < cellsIn put) =
-            subst (λ (y : Pair). (y .left < cellsIn put) × (y .right < cellsIn put)) (sym (p .there)) (rw (p .same-length) (xb, cb)) in
+        subst (λ (y : Pair). (y .left < cellsIn put) × (y .right < cellsIn put)) (sym (p .there)) (rw (p .same-length) (xb, cb)) in
         (sound-beside (way .sound) p, rw (p .same-length) xa, rw (p .same-length) ca, record { at = λ k below. let first : k ≡ 0 = omega arith in rw first newest }, omega arith)
 
     parts-equal : (ρ : Subst) → (Sat ρ (storeOf mem) × Fits ρ r (cellOf c)) ↔ (Sat ρ (storeOf put) × AllEqual put (x .a) (c .a) 1 ρ)

@@ -151,7 +151,7 @@ module _ {before mem after : List ℕ} {i j pending a b left : ℕ} (r : Running
         λ (h, e). record { at = λ k below. go h e k (ℕ-discrete k left) below },
         λ h. (
           record { at = λ k below. subst (λ (x : Pair). ρ (x .left) ≡ ρ (x .right)) (pairs-below k below) (h .at k (omega arith)) },
-          subst (λ (x : Pair). ρ (x .left) ≡ ρ (x .right)) (p .there) (h .at left (omega arith))
+          subst (λ (x : Pair). ρ (x .left) ≡ ρ (x .right)) (p .there) (h .at left (omega arith)),
         ),
       )
         where

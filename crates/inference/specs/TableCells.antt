@@ -11,7 +11,7 @@ use Rattle.language.specs.Unification.{Solves}
 use Rattle.table.specs.Node.{nodeAt}
 use Rattle.table.specs.Scope.{binderOf}
 use Rattle.table.specs.Refusals.{countOf}
-use Rattle.table.specs.Tree.{Tree}
+use Rattle.table.specs.Tree.{Tree, Checked}
 use Rattle.equations.specs.Cells.{Sat}
 use Rattle.equations.specs.Equations.{nodeVar, nameVar, nameEquations, equationsAt, equationsBelow}
 use Rattle.inference.specs.Layout.{cellAt, storeOf, cellsIn, Sound}
@@ -55,6 +55,10 @@ NameSolved words k ρ = Solves (unknowns ρ) (nameEquations k (binderOf (nodeAt 
 abbrev pub NodesSolved : List ℕ → ℕ → Subst → Type 0
 NodesSolved words k ρ = Solves (unknowns ρ) (equationsBelow (nodeAt words) k)
 
+-- Those of a table, in its cells.
+abbrev pub TableSolved : List ℕ → ℕ → Subst → Type 0
+TableSolved words n ρ = Constants ρ × NodesSolved words n ρ
+
 -- A table of n nodes that is a tree, with cells for it; and a node of it.
 pub record NodesReady (words : List ℕ) (n : ℕ) (mem : List ℕ) : Type 0 where
   pub counted : n ≡ countOf words
@@ -78,4 +82,9 @@ pub record TableReady (words : List ℕ) (n : ℕ) (mem : List ℕ) : Type 0 whe
   pub counted : n ≡ countOf words
   pub tree : Tree (nodeAt words) n
   pub cells : AllFree mem
+  pub whole : length mem ≡ 5 * (2 * n + 4)
+
+-- A slice of words for the cells of a checked table.
+pub record TableRoom (words : List ℕ) (n : ℕ) (mem : List ℕ) : Type 0 where
+  pub checked : Checked words n
   pub whole : length mem ≡ 5 * (2 * n + 4)

@@ -5,10 +5,86 @@ mod rules;
 mod solve;
 mod write;
 
+use table::Verdict;
+use write::Room;
+ghost use mathlib.Core.Path.{_≡_};
+ghost use lib.ListN.{length};
+ghost use Rattle.table.specs.Refusals.{countOf, checkOf};
+ghost use Rattle.table.specs.declared.Verdict.the-variants.{Nodes as Accepted};
+ghost use Rattle.inference.specs.TableCells.{TableReady, TableRoom};
+ghost use Rattle.inference.specs.Inference.{leaves, Infers, InfersWithWork, RootReady, RootAnswered};
+
 // What inference of a table answers.
 pub enum Inferred {
     // 0: the most general type, of so many words, stands at the beginning of the out slice.
     Typed(usize),
     // 1 to 7: the first refusal in order.
     Refused { code: u32, place: u32 },
+}
+
+// The root's type, which is cell 4's, if it fits.
+fn answer(cells: &mut [u32], out: &mut [u32]) -> Inferred
+    requires { ⌜ RootReady (now cells) ⌝ }
+    ensures { λ r. ⌜ RootAnswered (now (cells .entry)) (now (out .entry)) r (now (out .exit)) ⌝ }
+{
+    let length = out.len();
+    let room = write::write_type(cells, 4, out);
+    let Room::Left(left) = room else {
+        return Inferred::Refused { code: 7, place: 0 };
+    };
+    Inferred::Typed(length - left)
+}
+
+// The type of a checked table, in cells that are all free.
+fn principal(words: &[u32], n: u32, cells: &mut [u32], out: &mut [u32]) -> Inferred
+    requires { ⌜ TableReady (now words) n (now cells) × (checkOf (now words) ≡ Accepted n) ⌝ }
+    ensures { λ r. ⌜ InfersWithWork (now (words .entry)) n (now (out .entry)) r (now (out .exit)) ⌝ }
+{
+    if rules::solve_table(words, cells, n) {
+        if ground::grounded(cells, 2 * n + 4) {
+            return answer(cells, out);
+        }
+    }
+    Inferred::Refused { code: 6, place: 0 }
+}
+
+// The same in a slice of any words for its cells.
+fn in_cells(words: &[u32], n: u32, cells: &mut [u32], out: &mut [u32]) -> Inferred
+    requires { ⌜ TableRoom (now words) n (now cells) × (checkOf (now words) ≡ Accepted n) ⌝ }
+    ensures { λ r. ⌜ InfersWithWork (now (words .entry)) n (now (out .entry)) r (now (out .exit)) ⌝ }
+{
+    lent::clear(cells);
+    principal(words, n, cells, out)
+}
+
+// The answer for a checked table: 5 where the work slice is too short, else its type. Five words of each of the cells are used.
+fn accepted(words: &[u32], work: &mut [u32], out: &mut [u32]) -> Inferred
+    requires { ⌜ checkOf (now words) ≡ Accepted (countOf (now words)) ⌝ }
+    ensures { λ r. ⌜ Infers (now (words .entry)) (now (work .entry)) (now (out .entry)) (leaves r (now (work .exit)) (now (out .exit))) ⌝ }
+{
+    let n = words.len() / 4;
+    let size = 24 * n + 16;
+    if work.len() < size {
+        return Inferred::Refused { code: 5, place: 0 };
+    }
+    let cells = 5 * (2 * n + 4);
+    let inferred = in_cells(words, n as u32, &mut work[..cells], out);
+    lent::clear(&mut work[..size]);
+    inferred
+}
+
+// The inference of a table: the refusal of its check, 5, 6 or 7, or its most general type, which is then written at the beginning of
+// `out`. Codes 1 to 5 change no lent word; after 0, 6 and 7 the first 24 × nodes + 16 words of `work` are zero. `out` is written on code
+// 0 only, and no word after the type.
+pub fn infer(words: &[u32], work: &mut [u32], out: &mut [u32]) -> Inferred
+    ensures { λ r. ⌜ Infers (now (words .entry)) (now (work .entry)) (now (out .entry)) (leaves r (now (work .exit)) (now (out .exit))) ⌝ }
+{
+    let checked = table::check(words);
+    let Verdict::Refused { code, place } = checked else {
+        return accepted(words, work, out);
+    };
+    Inferred::Refused {
+        code: code,
+        place: place,
+    }
 }

@@ -11,7 +11,7 @@ ghost use mathlib.Core.Bool.{true};
 ghost use Rattle.language.specs.Ty.{bool, _⇒_};
 ghost use Rattle.inference.specs.Layout.{cellsIn, Sound};
 ghost use Rattle.inference.specs.Solving.{Outcome};
-ghost use Rattle.inference.specs.TableCells.{typeCell, nameCell, Constants, givesCell, NodeReady, NameSolved, NodeSolved, NodesReady, NodesSolved, AllFree, TableReady};
+ghost use Rattle.inference.specs.TableCells.{typeCell, nameCell, Constants, givesCell, NodeReady, NameSolved, NodeSolved, NodesReady, NodesSolved, AllFree, TableReady, TableSolved};
 
 fn type_cell(k: u32) -> u32
     requires { ⌜ k ≤ 4096 ⌝ }
@@ -137,7 +137,7 @@ fn nodes(words: &[u32], cells: &mut [u32], n: u32) -> bool
 // The equations of a table, in cells that are all free: can they be solved without a clash?
 pub(crate) fn solve_table(words: &[u32], cells: &mut [u32], n: u32) -> bool
     requires { ⌜ TableReady (now words) n (now cells) ⌝ }
-    ensures { λ ok. ⌜ Outcome (now (cells .entry)) (now (cells .exit)) (λ ρ. Constants ρ × NodesSolved (now (words .entry)) n ρ) ok ⌝ }
+    ensures { λ ok. ⌜ Outcome (now (cells .entry)) (now (cells .exit)) (TableSolved (now (words .entry)) n) ok ⌝ }
 {
     constants(cells);
     nodes(words, cells, n)

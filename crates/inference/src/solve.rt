@@ -1,10 +1,10 @@
 // Solving: two cells are made equal, and with them the parts of arrows that meet. Links lead to smaller numbers.
+use crate::cells::Pair;
+use crate::cells::TypeCell;
 use crate::cells::get;
 use crate::cells::get_pair;
 use crate::cells::put;
 use crate::cells::put_pair;
-use crate::cells::Pair;
-use crate::cells::TypeCell;
 ghost use Prim.Native.Nat.{_≤_, _<_};
 ghost use mathlib.Core.Path.{_≡_};
 ghost use mathlib.Core.Logic.{_≢_};
