@@ -1,6 +1,6 @@
 -- Marking cells: what a cell leans on, what one mark changes, and what is known when a pass marks none and when no cell is left.
-use Prim.Native.Nat.{ℕ, zero, suc, _+_, _-_, _*_, _≤_, _<_}
-use mathlib.Core.Path.{_≡_, refl, sym, _∙_, ap, subst, fun-ext}
+use Prim.Native.Nat.{ℕ, _+_, _-_, _*_, _≤_, _<_}
+use mathlib.Core.Path.{_≡_, refl, sym, _∙_, ap, subst}
 use mathlib.Core.Bool.{Bool, true, false}
 use mathlib.Core.Logic.{_≢_, _⊎_, inl, inr, ⊎-elim}
 use mathlib.Core.List.{List}
@@ -8,15 +8,14 @@ use native.Mathlib.Decide.{ℕ-discrete, decLt}
 use native.Mathlib.Omega.{arith}
 use lib.ListN.{length, getD, List·getD-eq-default}
 use Rattle.language.specs.Ty.{unit, bool, int, _⇒_, var, Subst}
-use Rattle.equations.specs.Cells.{Cell, free, link, unit-cell, bool-cell, int-cell, arrow-cell, LinksFall, Sat, ev-free, ev-link, ev-unit, ev-bool, ev-int, ev-arrow, Leans, on-link, on-left, on-right}
+use Rattle.equations.specs.Cells.{Cell, free, link, unit-cell, bool-cell, int-cell, arrow-cell, Sat, ev-free, ev-link, ev-unit, ev-bool, ev-int, ev-arrow, Leans, on-link, on-left, on-right}
 use Rattle.equations.specs.CellSteps.{tag}
 use Rattle.equations.specs.Grounded.{ungrounded-has-none}
-use Rattle.inference.specs.Layout.{cellAt, pairAt, cellOf, storeOf, cellsIn, Sound, SameCells, PairPut}
+use Rattle.inference.specs.Layout.{cellAt, pairAt, storeOf, cellsIn, Sound, SameCells, PairPut}
 use Rattle.inference.specs.StoreLaws.{same-cells, same-then, same-beside, same-store, sound-beside, says-tag, says-free, says-link, says-arrow, parts-inside, links-fall}
 use Rattle.inference.specs.Count.{count, count-changed, count-bound, count-all, count-none, count-some}
 use Rattle.inference.specs.Grounding.{GroundTested, noMark, unmarked, noPair, Waits, Evaluates, Marking, LeansOrEvaluates, Settled, UnmarkedBelow, Progress}
 use Rattle.inference.specs.declared.cells.TypeCell.{TypeCell}
-use Rattle.inference.specs.declared.cells.Pair.{Pair}
 
 -- ---- What a cell leans on
 

@@ -4,10 +4,9 @@ use mathlib.Core.Path.{_≡_}
 use mathlib.Core.Bool.{Bool, true, false}
 use mathlib.Core.List.{List}
 use lib.Dec.{eqb}
-use lib.ListN.{length}
 use Rattle.language.specs.Ty.{Ty, Subst}
 use Rattle.equations.specs.Cells.{Store, Sat, Ev, Grounds, Leans}
-use Rattle.inference.specs.Layout.{cellAt, pairAt, storeOf, cellsIn, Sound, SameCells}
+use Rattle.inference.specs.Layout.{pairAt, storeOf, cellsIn, Sound, SameCells}
 use Rattle.inference.specs.Count.{count}
 use Rattle.inference.specs.declared.cells.Pair.{Pair}
 

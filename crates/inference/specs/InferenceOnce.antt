@@ -6,7 +6,6 @@ use mathlib.Core.Bool.{not}
 use mathlib.Core.List.{List, [], _∷_}
 use mathlib.Core.Logic.{_↔_}
 use mathlib.Core.Option.{Option, none, some}
-use native.Mathlib.Omega.{arith}
 use lib.ListN.{length, getD}
 use Rattle.language.specs.Ty.{Ty}
 use Rattle.language.specs.Environment.{empty}
@@ -47,9 +46,6 @@ module _ (P : ℕ → Type 0) (p₁ : P 1) (p₂ : P 2) (p₃ : P 3) (p₄ : P 4
       let stray = firstFrom (misplaced (nodeAt words) n) n 0 in
       let nameless = firstFrom (unbound (nodeAt words)) n 0 in
       subst OfItsCode v (first-fault-decides (miscount (length words)) misfit stray nameless n)
-
-pub refusal-code : (words : List ℕ) {code place : ℕ} → checkOf words ≡ Turned code place → (1 ≤ code) × (code ≤ 4)
-refusal-code = true-of-refusal-code (λ code. (1 ≤ code) × (code ≤ 4)) (omega arith) (omega arith) (omega arith) (omega arith)
 
 -- ---- The case of each other code
 

@@ -1,21 +1,19 @@
 -- Two cells meet: what is written, and what it makes of the satisfying valuations.
-use Prim.Native.Nat.{ℕ, zero, suc, _+_, _≤_, _<_}
+use Prim.Native.Nat.{ℕ, suc, _+_, _≤_, _<_}
 use mathlib.Core.Path.{_≡_, refl, sym, _∙_, ap, subst}
-use mathlib.Core.Bool.{Bool, true, false}
 use mathlib.Core.Logic.{_≢_, _↔_}
-use mathlib.Core.List.{List, [], _∷_}
-use native.Mathlib.Decide.{ℕ-discrete}
+use mathlib.Core.List.{List}
 use native.Mathlib.Omega.{arith}
 use lib.Dec.{eqb}
-use lib.ListN.{length, getD}
+use lib.ListN.{length}
 use borrow.Author.Tests.{ne-eqb}
 use Rattle.language.specs.Ty.{Subst}
-use Rattle.equations.specs.Cells.{Cell, free, link, unit-cell, bool-cell, int-cell, arrow-cell, Store, Put, Sat}
+use Rattle.equations.specs.Cells.{Put, Sat}
 use Rattle.equations.specs.CellSteps.{free-written, equal-linked, copied-down, arrow-linked, tag, clash}
 use Rattle.table.specs.Refusals.{once}
-use Rattle.inference.specs.Layout.{cellAt, pairAt, cellOf, storeOf, cellsIn, Sound, CellPut}
+use Rattle.inference.specs.Layout.{cellAt, pairAt, storeOf, cellsIn, Sound, CellPut}
 use Rattle.inference.specs.StoreLaws.{store-is, store-put, sound-put, tag-of, base-says, above-one, says-free, says-arrow}
-use Rattle.inference.specs.Count.{count, count-changed}
+use Rattle.inference.specs.Count.{count-changed}
 use Rattle.inference.specs.Paths.{way-inside}
 use Rattle.inference.specs.Solving.{isLinkIn, linksIn, TwoRoots, Shortened, Joined, MetAs, Meeting}
 use Rattle.inference.specs.declared.cells.TypeCell.{TypeCell}

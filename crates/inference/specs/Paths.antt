@@ -1,19 +1,17 @@
 -- Paths of links are shortened on the way to a root.
-use Prim.Native.Nat.{ℕ, _≤_, _<_}
+use Prim.Native.Nat.{ℕ, _<_}
 use mathlib.Core.Path.{_≡_, refl, sym, _∙_, ap}
-use mathlib.Core.Bool.{Bool, true}
-use mathlib.Core.Logic.{_≢_, _↔_}
+use mathlib.Core.Logic.{_↔_}
 use mathlib.Core.List.{List}
 use native.Mathlib.Decide.{ℕ-discrete}
 use native.Mathlib.Omega.{arith}
 use lib.Dec.{eqb}
-use lib.ListN.{length}
 use Rattle.language.specs.Ty.{Subst}
-use Rattle.equations.specs.Cells.{Store, link, Put, Sat}
+use Rattle.equations.specs.Cells.{link, Sat}
 use Rattle.equations.specs.CellSteps.{fits-at, path-shortened}
-use Rattle.inference.specs.Layout.{cellAt, pairAt, storeOf, cellsIn, Sound, CellPut}
+use Rattle.inference.specs.Layout.{cellAt, storeOf, cellsIn, Sound, CellPut}
 use Rattle.inference.specs.StoreLaws.{store-put, sound-put, says-link}
-use Rattle.inference.specs.Count.{count, count-same}
+use Rattle.inference.specs.Count.{count-same}
 use Rattle.inference.specs.Solving.{isLinkIn, linksIn, Shortened}
 use Rattle.inference.specs.declared.cells.TypeCell.{TypeCell}
 

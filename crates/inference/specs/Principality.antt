@@ -1,33 +1,33 @@
 -- The cells of a solved table give its most general type, or it has none.
-use Prim.Native.Nat.{ℕ, zero, suc, _+_, _-_, _*_, _≤_, _<_}
-use mathlib.Core.Path.{_≡_, refl, sym, _∙_, ap, subst, fun-ext}
-use mathlib.Core.Bool.{Bool, true, false}
+use Prim.Native.Nat.{ℕ, zero, suc, _+_, _-_, _*_, _≤_}
+use mathlib.Core.Path.{_≡_, refl, sym, _∙_, ap, fun-ext}
+use mathlib.Core.Bool.{true, false}
 use mathlib.Core.List.{List, [], _∷_}
 use native.Mathlib.Omega.{arith}
 use lib.ListN.{length, getD, replicate, length-replicate, List·getD-eq-default}
-use Rattle.language.specs.Ty.{Ty, bool, int, _⇒_, Subst, compose, MoreGeneral}
+use Rattle.language.specs.Ty.{Ty, bool, int, _⇒_, Subst}
 use Rattle.language.specs.Environment.{empty}
 use Rattle.language.specs.Typing.{Has}
 use Rattle.language.specs.Principal.{Principal}
 use Rattle.language.specs.Unification.{Solves, MostGeneralSolution}
 use Rattle.language.specs.WrittenForm.{wordsOf}
 use Rattle.table.specs.Node.{nodeAt}
-use Rattle.table.specs.Refusals.{countOf, checkOf}
-use Rattle.table.specs.ExpressionOf.{expAt, expOf}
+use Rattle.table.specs.Refusals.{checkOf}
+use Rattle.table.specs.ExpressionOf.{expOf}
 use Rattle.table.specs.Accepted.{count-is}
 use Rattle.table.specs.declared.Verdict.the-variants.{Nodes as Accepted}
 use Rattle.equations.specs.Cells.{Sat, Ev, Grounds}
 use Rattle.equations.specs.Grounded.{grounded-satisfies, grounded-then-any}
-use Rattle.equations.specs.Equations.{nodeVar, equationsBelow}
+use Rattle.equations.specs.Equations.{equationsBelow}
 use Rattle.equations.specs.TypedExactlySolvable.{typed-exactly-solvable, most-general-is-principal}
-use Rattle.inference.specs.Layout.{cellAt, pairAt, storeOf, cellsIn, Sound}
+use Rattle.inference.specs.Layout.{cellAt, storeOf}
 use Rattle.inference.specs.StoreLaws.{same-store, sound-same}
 use Rattle.inference.specs.Solving.{Outcome}
 use Rattle.inference.specs.Grounding.{GroundTested}
 use Rattle.inference.specs.Writing.{CellWritten, TypeWritten}
 use Rattle.inference.specs.TableCells.{unknowns, Constants, TableSolved, TableReady, TableRoom}
 use Rattle.inference.specs.TableLaws.{all-satisfied}
-use Rattle.inference.specs.Inference.{leaves, cleared, workFor, Infers, no-type, out-short, typed, InfersWithWork, RootReady, RootAnswered}
+use Rattle.inference.specs.Inference.{leaves, cleared, no-type, out-short, typed, InfersWithWork, RootReady, RootAnswered}
 use Rattle.inference.specs.declared.Inferred.{Inferred}
 use Rattle.inference.specs.declared.Inferred.the-variants.{Typed, Refused}
 use Rattle.inference.specs.declared.write.Room.{Room}

@@ -1,21 +1,20 @@
 -- What is demanded of the cells of a node is that its equations are solved, rule by rule.
-use Prim.Native.Nat.{ℕ, zero, suc, _+_, _-_, _*_, _≤_, _<_}
-use mathlib.Core.Path.{_≡_, refl, sym, _∙_, ap, ap₂, subst}
+use Prim.Native.Nat.{ℕ, zero, suc, _+_, _-_, _≤_, _<_}
+use mathlib.Core.Path.{_≡_, refl, sym, _∙_, ap, ap₂}
 use mathlib.Core.Bool.{Bool, true, false, cond}
 use mathlib.Core.Logic.{_≢_, _↔_}
 use mathlib.Core.List.{List, [], _∷_}
 use mathlib.Core.Option.{Option, none, some}
 use native.Mathlib.Omega.{arith}
 use lib.Dec.{ltb}
-use lib.ListN.{length}
 use borrow.Author.Tests.{lt-ltb, le-ltb}
-use Rattle.language.specs.Expression.{Constant, unit-element, boolean, integer, operator}
-use Rattle.language.specs.Ty.{Ty, unit, bool, int, _⇒_, var, Subst, apply}
+use Rattle.language.specs.Expression.{operator}
+use Rattle.language.specs.Ty.{Ty, unit, bool, int, _⇒_, Subst, apply}
 use Rattle.language.specs.Typing.{gives, typeOf}
 use Rattle.language.specs.TypingLaws.{constants-have-no-variable}
-use Rattle.language.specs.Unification.{Equation, _≐_, Solves, none-left, also}
+use Rattle.language.specs.Unification.{_≐_, Solves, none-left, also}
 use Rattle.language.specs.MostGeneral.{first-solved}
-use Rattle.table.specs.Node.{Node, constant-node, name-node, application-node, if-node, lambda-node, let-node, rec-node, Field, field-a, field-b, field-c, child, Kid, operatorAt, nodeOf, nodeAt}
+use Rattle.table.specs.Node.{Node, Field, field-a, field-b, field-c, child, operatorAt, nodeOf, nodeAt}
 use Rattle.table.specs.Scope.{nameOf, binderFor, binderOf}
 use Rattle.table.specs.Refusals.{countOf}
 use Rattle.table.specs.Reading.{wordsAt, binderAnswer, binderIn}
@@ -25,11 +24,11 @@ use Rattle.table.specs.declared.NodeWords.{NodeWords}
 use Rattle.table.specs.declared.Bound.{Bound}
 use Rattle.table.specs.declared.Bound.the-variants.{At, Nowhere}
 use Rattle.equations.specs.Cells.{Fits, Sat}
-use Rattle.equations.specs.Equations.{nameEquations, equationsAt}
-use Rattle.inference.specs.Layout.{cellOf, storeOf, cellsIn, Sound}
+use Rattle.equations.specs.Equations.{equationsAt}
+use Rattle.inference.specs.Layout.{cellOf, storeOf, cellsIn}
 use Rattle.inference.specs.Solving.{Outcome}
 use Rattle.inference.specs.Outcomes.{outcome-for}
-use Rattle.inference.specs.TableCells.{typeCell, nameCell, unknowns, Constants, givesCell, CellsFor, NodeSolved, NameSolved, NodeReady}
+use Rattle.inference.specs.TableCells.{typeCell, nameCell, unknowns, Constants, givesCell, NodeSolved, NameSolved, NodeReady}
 
 -- ---- Cells of nodes
 

@@ -5,13 +5,12 @@ use mathlib.Core.Bool.{Bool, true, false}
 use mathlib.Core.Logic.{_≢_, _↔_}
 use mathlib.Core.List.{List}
 use native.Mathlib.Omega.{arith}
-use lib.ListN.{length}
-use Rattle.language.specs.Ty.{Ty, _⇒_, Subst}
+use Rattle.language.specs.Ty.{_⇒_, Subst}
 use Rattle.equations.specs.Cells.{free, arrow-cell, Fits, Sat}
 use Rattle.equations.specs.CellSteps.{fits-at, fits-equal, free-written, tag, clash-said}
 use Rattle.inference.specs.Layout.{cellAt, pairAt, cellOf, storeOf, cellsIn, Sound, CellPut, PairPut}
 use Rattle.inference.specs.StoreLaws.{store-is, store-put, Writable, sound-put, store-beside, sound-beside, tag-of, base-says, above-one, says-free, says-arrow, parts-inside}
-use Rattle.inference.specs.Solving.{Outcome, Shortened, Pending, AllEqual, PairsInside}
+use Rattle.inference.specs.Solving.{Outcome, Shortened, AllEqual, PairsInside}
 use Rattle.inference.specs.Outcomes.{outcome-after}
 use Rattle.inference.specs.declared.cells.TypeCell.{TypeCell}
 use Rattle.inference.specs.declared.cells.Pair.{Pair}

@@ -1,12 +1,11 @@
 -- The solver's loop: what is demanded of valuations stays the same while cells meet, and its work falls.
-use Prim.Native.Nat.{ℕ, zero, suc, _+_, _-_, _*_, _≤_, _<_}
+use Prim.Native.Nat.{ℕ, suc, _+_, _-_, _*_, _≤_, _<_}
 use mathlib.Core.Path.{_≡_, refl, sym, _∙_, ap, subst}
-use mathlib.Core.Bool.{Bool, true, false}
+use mathlib.Core.Bool.{true, false}
 use mathlib.Core.Logic.{_≢_, _↔_}
 use mathlib.Core.List.{List}
 use native.Mathlib.Decide.{ℕ-discrete}
 use native.Mathlib.Omega.{arith}
-use native.Mathlib.Numerals.{add-one}
 use lib.Dec.{eqb}
 use lib.ListN.{length}
 use borrow.Author.Tests.{ne-eqb}
@@ -14,7 +13,7 @@ use Rattle.language.specs.Ty.{Subst}
 use Rattle.equations.specs.Cells.{Sat}
 use Rattle.inference.specs.Layout.{cellAt, pairAt, storeOf, cellsIn, Sound, PairPut}
 use Rattle.inference.specs.StoreLaws.{store-beside, sound-beside}
-use Rattle.inference.specs.Count.{count, count-same, count-bound, count-but-0}
+use Rattle.inference.specs.Count.{count-same, count-but-0}
 use Rattle.inference.specs.Solving.{Outcome, isLinkIn, linksIn, Pending, AllEqual, PairsInside, Joined, Meeting}
 use Rattle.inference.specs.declared.cells.TypeCell.{TypeCell}
 use Rattle.inference.specs.declared.cells.Pair.{Pair}

@@ -5,10 +5,10 @@ use mathlib.Core.Logic.{_≢_}
 use mathlib.Core.List.{List, [], _∷_}
 use native.Mathlib.Decide.{ℕ-discrete}
 use native.Mathlib.Omega.{arith}
-use lib.ListN.{length, getD}
-use Rattle.equations.specs.Cells.{Cell, free, link, unit-cell, bool-cell, int-cell, arrow-cell, Store, Put, LinksFall}
+use lib.ListN.{getD}
+use Rattle.equations.specs.Cells.{free, link, unit-cell, bool-cell, int-cell, arrow-cell, Put, LinksFall}
 use Rattle.equations.specs.CellSteps.{tag}
-use Rattle.inference.specs.Layout.{cellAt, pairAt, cellOf, storeOf, cellsIn, Sound, SameCells, CellPut, PairPut}
+use Rattle.inference.specs.Layout.{cellAt, cellOf, storeOf, cellsIn, Sound, SameCells, CellPut, PairPut}
 use Rattle.inference.specs.declared.cells.TypeCell.{TypeCell}
 use Rattle.inference.specs.declared.cells.Pair.{Pair}
 

@@ -1,32 +1,28 @@
 -- The equations of a table, node by node, in cells that are all free at first.
-use Prim.Native.Nat.{ℕ, suc, _+_, _*_, _≤_, _<_}
-use mathlib.Core.Path.{_≡_, refl, sym, _∙_, ap, ap₂, subst}
-use mathlib.Core.Bool.{Bool, true, false}
-use mathlib.Core.Logic.{_≢_, _↔_}
+use Prim.Native.Nat.{ℕ, _+_, _≤_, _<_}
+use mathlib.Core.Path.{_≡_, refl, sym, _∙_, ap₂, subst}
+use mathlib.Core.Bool.{true, false}
+use mathlib.Core.Logic.{_↔_}
 use mathlib.Core.List.{List}
 use native.Mathlib.Omega.{arith}
 use native.Mathlib.Numerals.{add-one}
 use lib.ListN.{length}
 use Rattle.language.specs.Ty.{bool, int, _⇒_, Subst}
-use Rattle.language.specs.Unification.{Solves, none-left}
+use Rattle.language.specs.Unification.{none-left}
 use Rattle.language.specs.MostGeneral.{solves-append, solves-split}
 use Rattle.table.specs.Node.{nodeAt}
-use Rattle.table.specs.Refusals.{countOf}
 use Rattle.equations.specs.Cells.{free, Fits, Sat}
-use Rattle.equations.specs.Equations.{equationsAt, equationsBelow}
+use Rattle.equations.specs.Equations.{equationsBelow}
 use Rattle.equations.specs.NodeByNode.{solves-each, solves-below}
-use Rattle.inference.specs.Layout.{cellAt, cellOf, storeOf, cellsIn, Sound, CellPut}
+use Rattle.inference.specs.Layout.{storeOf, cellsIn, Sound, CellPut}
 use Rattle.inference.specs.StoreLaws.{Writable, says-free}
 use Rattle.inference.specs.Solving.{Outcome}
-use Rattle.inference.specs.Outcomes.{outcome-after, outcome-for, outcome-then, outcome-fails}
+use Rattle.inference.specs.Outcomes.{outcome-for, outcome-then}
 use Rattle.inference.specs.Saying.{free-said}
 use Rattle.inference.specs.TableCells.{unknowns, Constants, NodeSolved, NodesSolved, NodesReady, NodeReady, AllFree, TableReady}
 use Rattle.inference.specs.declared.cells.TypeCell.{TypeCell}
 
 -- ---- Free cells
-
-abbrev freeCell : TypeCell
-freeCell = record { tag = 0; a = 0; b = 0 }
 
 module _ {mem : List ℕ} (f : AllFree mem) where
   all-sound : Sound mem

@@ -1,5 +1,4 @@
 -- `inference::answer` meets its contract.
-use native.Mathlib.Omega.{arith}
 use Rattle.inference.specs.Principality.{root-over, left-within, root-typed}
 use borrow.Author.Needs.{needs}
 use Rattle.inference.proofs.answer.Statement.{statement}

@@ -1,12 +1,8 @@
 -- `inference::solve::find` meets its contract. The loop's invariant: the way from the cell has been shortened as far as the current one.
-use mathlib.Core.Path.{sym, _∙_, ap}
-use Rattle.inference.specs.Paths.{nothing-shortened, way-inside, next-below, one-further, past-below, link-past}
+use mathlib.Core.Path.{_∙_, ap}
+use Rattle.inference.specs.Paths.{nothing-shortened, way-inside, one-further, past-below, link-past}
 use Rattle.inference.specs.declared.cells.TypeCell.{TypeCell}
-use Prim.Native.Nat.{_≤_}
-use mathlib.Core.Path.{_≡_, refl, sym}
-use native.Mathlib.Omega.{arith}
 use Rattle.inference.specs.Solving.{Shortened}
-use Rattle.inference.specs.Paths.{nothing-shortened, next-below, one-further, link-past}
 use Rattle.inference.proofs.solve.find.Statement.{statement}
 use Rattle.inference.proofs.solve.find.Tie as tie
 

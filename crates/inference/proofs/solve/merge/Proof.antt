@@ -1,6 +1,5 @@
 -- `inference::solve::merge` meets its contract.
 use mathlib.Core.Path.{_∙_, sym}
-use native.Mathlib.Omega.{arith}
 use Rattle.inference.specs.Meetings.{copied-meeting, free-meeting, base-meeting, arrow-meeting, clash-meeting}
 use borrow.Author.Needs.{needs}
 use Rattle.inference.proofs.solve.merge.Statement.{statement}
