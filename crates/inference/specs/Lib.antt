@@ -1,4 +1,5 @@
--- Inference's code against the typing rules: what the words of its cells stand for, and what the code answers.
+-- Inference's code against the typing rules: what the words of its cells stand for, what its parts do, and what it answers. Start at
+-- `Inference` and `InferenceOnce`.
 -- Definitions.
 pub mod Layout
 pub mod Count
@@ -16,7 +17,7 @@ pub mod Meetings
 pub mod SolvingLaws
 pub mod Outcomes
 pub mod Saying
--- The rules.
+-- The equations of a table.
 pub mod RuleLaws
 pub mod TableLaws
 -- The test for cycles.

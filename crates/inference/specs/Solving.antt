@@ -16,13 +16,13 @@ use Rattle.inference.specs.declared.solve.Met.the-variants.{Clash, Done,
 -- ---- Outcomes
 
 -- The valuations that satisfied the cells and meet a demand are those that satisfy the cells now.
-pub record Met-by (before after : List ℕ) (demand : Subst → Type 0) : Type 0 where
+pub record DemandMet (before after : List ℕ) (demand : Subst → Type 0) : Type 0 where
   pub sound : Sound after
   pub keeps : (ρ : Subst) → (Sat ρ (storeOf before) × demand ρ) ↔ Sat ρ (storeOf after)
 
 -- A demand is met, or no valuation that satisfies the cells meets it.
 abbrev pub MetOrNone : List ℕ → List ℕ → (Subst → Type 0) → Bool → Type 0
-MetOrNone before after demand true = Met-by before after demand
+MetOrNone before after demand true = DemandMet before after demand
 MetOrNone before after demand false = (ρ : Subst) → Sat ρ (storeOf before) → ¬ demand ρ
 
 pub record Outcome (before after : List ℕ) (demand : Subst → Type 0) (ok : Bool) : Type 0 where
