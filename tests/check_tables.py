@@ -2,17 +2,15 @@
 """Compares the compiled check of tables with a second one, written from the rules alone.
 
 usage: check_tables.py PROGRAM [COUNT]
-       check_tables.py --show WORD ..      (the packed table, for PROGRAM's standard input)
 
-PROGRAM is crates/verdicts as it is built; it is run as it stands, or under the emulator where the machine is no x86-64. The tables
-are generated from a fixed seed: trees in any numbering, names bound and unbound, and the same with words damaged, cut and added.
-"""
+PROGRAM is crates/trials as it is built. The tables are generated from a fixed seed: trees in any numbering, names bound and unbound,
+and the same with words damaged, cut and added."""
 import os
-import platform
 import random
-import struct
-import subprocess
 import sys
+
+sys.path.insert(0, os.path.dirname(os.path.abspath(__file__)))
+from trials import CHECK, lines, trial  # noqa: E402
 
 # kind: the fields a, b, c in turn; '0' unused, 'n' name, 'k' child, 'w' any word, or a range
 FIELDS = {
@@ -46,19 +44,20 @@ def field_fits(rule, value, at, count):
 
 
 def verdict(words):
+    """Code and place; the place of acceptance is the node count."""
     if not words or len(words) % 4 or len(words) > 2048:
-        return "refused 1 0"
+        return 1, 0
     nodes = [tuple(words[i:i + 4]) for i in range(0, len(words), 4)]
     for at, (kind, *fields) in enumerate(nodes):
         if kind not in FIELDS or not all(map(lambda r, v: field_fits(r, v, at, len(nodes)), FIELDS[kind], fields)):
-            return "refused 2 %d" % at
+            return 2, at
     times = [0] * len(nodes)
     for node in nodes:
         for child, _ in children(node):
             times[child] += 1
     for at in range(1, len(nodes)):
         if times[at] != 1:
-            return "refused 3 %d" % at
+            return 3, at
     # From the root down, each node with the names that are bound there.
     unbound, open_nodes = [], [(0, frozenset())]
     while open_nodes:
@@ -66,7 +65,7 @@ def verdict(words):
         if nodes[at][0] == 4 and nodes[at][1] not in bound:
             unbound.append(at)
         open_nodes += [(child, bound if name is None else bound | {name}) for child, name in children(nodes[at])]
-    return "refused 4 %d" % min(unbound) if unbound else "nodes %d" % len(nodes)
+    return (4, min(unbound)) if unbound else (0, len(nodes))
 
 
 def tree(rng, size):
@@ -122,32 +121,19 @@ def tables(count):
         yield damaged(rng, words) if rng.random() < 0.7 else words
 
 
-def packed(words):
-    return struct.pack("<%dI" % (len(words) + 1), len(words), *words)
-
-
 def main():
-    if sys.argv[1:2] == ["--show"]:
-        sys.stdout.buffer.write(packed([int(word) for word in sys.argv[2:]]))
-        return
-    program, count = [sys.argv[1]], int(sys.argv[2]) if len(sys.argv) > 2 else 20000
-    if platform.machine() != "x86_64":
-        program = ["qemu-x86_64"] + (["-L", "/usr/x86_64-linux-gnu"] if os.path.isdir("/usr/x86_64-linux-gnu") else []) + program
+    program, count = sys.argv[1], int(sys.argv[2]) if len(sys.argv) > 2 else 20000
     asked = list(tables(count))
-    run = subprocess.run(program, input=b"".join(map(packed, asked)), stdout=subprocess.PIPE, check=True)
-    answers = run.stdout.decode().split("\n")[:-1]
-    if len(answers) != len(asked):
-        sys.exit("%d tables, %d answers" % (len(asked), len(answers)))
-    kinds = {}
-    for words, answer in zip(asked, answers):
-        wanted = verdict(words)
-        if answer != wanted:
-            sys.exit("the table %s: wanted %s, the program says %s" % (words, wanted, answer))
-        kind = wanted if wanted == "refused 1 0" else " ".join(wanted.split()[:-1])
-        kinds[kind] = kinds.get(kind, 0) + 1
-    if min(kinds.get(kind, 0) for kind in ["nodes", "refused 1 0", "refused 2", "refused 3", "refused 4"]) < 100:
-        sys.exit("a kind of answer is hardly met: %s" % kinds)
-    print("%d tables agree: %s" % (len(asked), ", ".join("%s %d" % pair for pair in sorted(kinds.items()))))
+    codes = {}
+    for words, answer in zip(asked, lines(program, [trial(CHECK, (0, 0, 0), words) for words in asked])):
+        code, place = verdict(words)
+        if answer != "%d %d" % (code, place):
+            sys.exit("the table %s: wanted %d %d, the program says %s" % (words, code, place, answer))
+        codes[code] = codes.get(code, 0) + 1
+    hardly = [code for code in range(5) if codes.get(code, 0) < 100]
+    if hardly:
+        sys.exit("codes that are hardly met: %s of %s" % (hardly, codes))
+    print("%d tables agree: %s" % (len(asked), ", ".join("%d %d" % pair for pair in sorted(codes.items()))))
 
 
 if __name__ == "__main__":

@@ -1,0 +1,17 @@
+// The call `check`. Its line: code and place, where the place of acceptance is the node count.
+use crate::lines;
+use table::Verdict;
+
+fn begin(v: Verdict) {
+    match v {
+        Verdict::Nodes(n) => lines::begin(0, n),
+        Verdict::Refused { code, place } => lines::begin(code, place),
+    }
+}
+
+// Makes a check. It lends nothing, so that it can always be made.
+pub(crate) fn check(words: &[u32]) -> bool {
+    begin(table::check(words));
+    lines::end();
+    true
+}

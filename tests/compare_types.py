@@ -1,0 +1,407 @@
+#!/usr/bin/env python3
+"""Compares compiled inference with a second one, written from the rules alone.
+
+usage: compare_types.py PROGRAM [COUNT]
+
+PROGRAM is crates/trials as it is built. The bench formulas come first, with the answers that the scope states for them; then tables that
+are generated from a fixed seed, typed and not, with work and out slices at and around their exact lengths, and the same tables damaged.
+
+The second inference goes down the formula with the types of the names in scope, and substitutes for variables as soon as two types have
+to be equal, where a variable never enters its own type."""
+import os
+import random
+import sys
+
+sys.path.insert(0, os.path.dirname(os.path.abspath(__file__)))
+from check_tables import damaged, tree, verdict  # noqa: E402
+from trials import INFER, lines, trial  # noqa: E402
+
+LONGEST = 33000  # of a lent slice, in words
+UNIT, BOOL, INT = "unit", "bool", "int"
+
+
+class Arrow:
+    """A type is UNIT, BOOL, INT, a number for a variable, or an arrow. An arrow is equal to itself only, so that parts can be shared
+    and looked at once."""
+    __slots__ = ("takes", "gives")
+
+    def __init__(self, takes, gives):
+        self.takes, self.gives = takes, gives
+
+
+class NoType(Exception):
+    """The reason: 'clash' of two forms, or 'cycle' of a variable in its own type."""
+
+
+def operator_type(number):
+    return Arrow(INT, Arrow(INT, INT if number < 5 else BOOL))
+
+
+class Typing:
+    def __init__(self, words):
+        self.nodes = [words[i:i + 4] for i in range(0, len(words), 4)]
+        self.known = {}
+        self.variables = 0
+        self.made_equal = set()
+        self.lengths = {}
+
+    def fresh(self):
+        self.variables += 1
+        return self.variables
+
+    def type_at(self, at, env):
+        kind, a, b, c = self.nodes[at]
+        if kind < 3:
+            return (UNIT, BOOL, INT)[kind]
+        if kind == 3:
+            return operator_type(a)
+        if kind == 4:
+            return env[a]
+        if kind == 5:
+            result = self.fresh()
+            self.unify(self.type_at(a, env), Arrow(self.type_at(b, env), result))
+            return result
+        if kind == 6:
+            self.unify(self.type_at(a, env), BOOL)
+            branch = self.type_at(b, env)
+            self.unify(branch, self.type_at(c, env))
+            return branch
+        if kind == 8:
+            return self.type_at(c, {**env, a: self.type_at(b, env)})
+        bound = self.fresh()
+        body = self.type_at(b, {**env, a: bound})
+        if kind == 7:
+            return Arrow(bound, body)
+        self.unify(bound, body)
+        return body
+
+    def form(self, t):
+        while t in self.known:
+            t = self.known[t]
+        return t
+
+    def unify(self, s, t):
+        s, t = self.form(s), self.form(t)
+        if s == t or (s, t) in self.made_equal:
+            return
+        if type(s) is int:
+            self.substitute(s, t)
+        elif type(t) is int:
+            self.substitute(t, s)
+        elif type(s) is Arrow and type(t) is Arrow:
+            self.unify(s.takes, t.takes)
+            self.unify(s.gives, t.gives)
+            self.made_equal.add((s, t))
+        else:
+            raise NoType("clash")
+
+    def substitute(self, variable, t):
+        looked_at, open_types = set(), [t]
+        while open_types:
+            part = self.form(open_types.pop())
+            if part == variable:
+                raise NoType("cycle")
+            if type(part) is Arrow and part not in looked_at:
+                looked_at.add(part)
+                open_types += (part.takes, part.gives)
+        self.known[variable] = t
+
+    def length(self, t):
+        """The written length, which may be far greater than the number of parts that are shared in it."""
+        t = self.form(t)
+        if type(t) is not Arrow:
+            return 1
+        if t not in self.lengths:
+            self.lengths[t] = 1 + self.length(t.takes) + self.length(t.gives)
+        return self.lengths[t]
+
+    def written(self, t, numbers):
+        t = self.form(t)
+        if type(t) is Arrow:
+            return [4] + self.written(t.takes, numbers) + self.written(t.gives, numbers)
+        if type(t) is int:
+            return [16 + numbers.setdefault(t, len(numbers))]
+        return [(UNIT, BOOL, INT).index(t) + 1]
+
+
+class Inference:
+    """What the table alone decides: its check, the reason why it has no type, or its type's words and how many they are."""
+
+    def __init__(self, words):
+        self.code, self.place = verdict(words)
+        self.needs = 24 * (len(words) // 4) + 16
+        self.reason, self.length, self.text = None, None, None
+        if self.code:
+            return
+        typing = Typing(words)
+        try:
+            root = typing.type_at(0, {})
+        except NoType as refusal:
+            self.reason = str(refusal)
+            return
+        self.length = typing.length(root)
+        if self.length <= LONGEST:
+            self.text = " ".join(map(str, typing.written(root, {})))
+
+    def answer(self, work, out):
+        if self.code:
+            return "%d %d" % (self.code, self.place)
+        if work < self.needs:
+            return "5 0"
+        if self.reason:
+            return "6 0"
+        if out < self.length:
+            return "7 0"
+        return "0 %d %s" % (self.length, self.text)
+
+
+# An expression is a tuple: a node's kind, and its fields with expressions for the children.
+
+def name(x):
+    return (4, x)
+
+
+def apply(function, *arguments):
+    for argument in arguments:
+        function = (5, function, argument)
+    return function
+
+
+def fun(x, body):
+    return (7, x, body)
+
+
+def table_of(expression, rng=None):
+    """The words of an expression, its nodes in any order in which children come after parents; without `rng`, breadth first."""
+    nodes, open_parts = [], [(expression, None, 0)]
+    while open_parts:
+        part, parent, field = open_parts.pop(rng.randrange(len(open_parts)) if rng else 0)
+        if parent:
+            parent[field] = len(nodes)
+        node = [0, 0, 0, 0]
+        for at, value in enumerate(part):
+            if type(value) is tuple:
+                open_parts.append((value, node, at))
+            else:
+                node[at] = value
+        nodes.append(node)
+    return [word for node in nodes for word in node]
+
+
+TRUE, ONE, TWO = (1, 1), (2, 1), (2, 2)
+P1 = [5, 1, 7, 0, 7, 0, 2, 0, 5, 3, 6, 0, 5, 4, 5, 0, 3, 0, 0, 0, 4, 0, 0, 0, 2, 1, 0, 0, 2, 5, 0, 0]
+P2 = table_of(fun(0, name(0)))
+P3 = table_of(fun(0, fun(1, apply(name(0), name(1)))))
+P4 = table_of(fun(0, apply(name(0), name(0))))
+P5 = table_of((9, 0, name(0)))
+P6 = table_of((6, TRUE, ONE, (1, 0)))
+P7 = table_of(apply(ONE, TWO))
+P8 = table_of(apply(ONE, apply((3, 3), ONE, (2, 0))))
+P9 = table_of((8, 0, fun(1, name(1)), (6, apply(name(0), TRUE), apply(name(0), ONE), (2, 0))))
+P12 = [4, 0, 0, 0]
+
+
+def doubled(times):
+    """double (.. (double 1)), where double is fun x -> fun f -> f (f x): from a type τ each makes (τ -> τ) -> τ (lecture notes,
+    Beispiel 44)."""
+    double, expression = fun(0, fun(1, apply(name(1), apply(name(1), name(0))))), ONE
+    for _ in range(times):
+        expression = apply(double, expression)
+    return table_of(expression)
+
+
+def doubled_type(times):
+    part = [3]
+    for _ in range(times):
+        part = [4, 4] + part + part + part
+    return " ".join(map(str, part))
+
+
+def just_past(power):
+    """A formula whose type has 2 ^ power + 1 words, which a count of so many bits would take for 1: from a type τ each application
+    makes τ -> τ, and at last a variable comes before it."""
+    same, expression = fun(0, fun(1, (6, TRUE, name(0), name(1)))), ONE
+    for _ in range(power - 1):
+        expression = apply(same, expression)
+    return table_of(fun(0, expression))
+
+
+def lambdas(count):
+    """So many lambdas of different names around a unit."""
+    return [word for k in range(count) for word in (7, k, k + 1, 0)] + [0] * 4
+
+
+AMPLE = (12304, 64)
+BENCH = [
+    (P1, AMPLE, "0 1 3"), (P1, (208, 1), "0 1 3"), (P1, (207, 64), "5 0"), (P1, (208, 0), "7 0"), (P1, (LONGEST, LONGEST), "0 1 3"),
+    (P2, AMPLE, "0 3 4 16 16"), (P2, (64, 3), "0 3 4 16 16"), (P2, (64, 2), "7 0"), (P2, (64, 0), "7 0"), (P2, (63, 2), "5 0"),
+    (P3, AMPLE, "0 7 4 4 16 17 4 16 17"), (P4, AMPLE, "6 0"), (P4, (112, 0), "6 0"), (P4, (111, 0), "5 0"), (P5, AMPLE, "0 1 16"),
+    (P6, AMPLE, "6 0"), (P7, AMPLE, "6 0"), (P8, AMPLE, "6 0"), (P9, AMPLE, "6 0"), (P12, AMPLE, "4 0"), (P12, (0, 0), "4 0"),
+    ([], AMPLE, "1 0"), (table_of(apply((3, 9), TRUE, TRUE)), AMPLE, "6 0"), (table_of(apply((3, 0), TRUE)), AMPLE, "6 0"),
+    (lambdas(511), (12304, 1023), "0 1023 %s 1" % " ".join("4 %d" % (16 + k) for k in range(511))), (lambdas(511), (12304, 1022), "7 0"),
+    (lambdas(511), (12303, 1023), "5 0"), (lambdas(512), (LONGEST, LONGEST), "1 0"),
+    # Types that are far longer written out than shared.
+    (doubled(8), (LONGEST, 13121), "0 13121 " + doubled_type(8)), (doubled(8), (LONGEST, 13120), "7 0"),
+    (doubled(63), (LONGEST, LONGEST), "7 0"), (just_past(14), (LONGEST, 16384), "7 0"),
+    (just_past(32), (LONGEST, LONGEST), "7 0"), (just_past(64), (LONGEST, LONGEST), "7 0"),
+]
+
+
+# ---- Generated formulas
+
+BASES = [UNIT, BOOL, INT, INT, "p", "q", "r"]
+
+
+def some_type(rng, depth=2):
+    """A type to aim at: bases, arrows as pairs, and letters for types of which nothing is known."""
+    if depth == 0 or rng.random() < 0.6:
+        return rng.choice(BASES)
+    return (some_type(rng, depth - 1), some_type(rng, depth - 1))
+
+
+def some_name(rng):
+    return rng.randrange(5) if rng.random() < 0.9 else rng.randrange(65536)
+
+
+def some_constant(rng):
+    return rng.choice([(0,), (1, rng.randrange(2)), (2, rng.getrandbits(32)), (3, rng.randrange(10))])
+
+
+def small(rng, goal, env):
+    """An expression of few nodes with the type that is aimed at; rec x -> x has every type."""
+    fitting = [x for x, t in env.items() if t == goal]
+    if fitting and rng.random() < 0.8:
+        return name(rng.choice(fitting))
+    if goal in (UNIT, BOOL, INT):
+        return {UNIT: (0,), BOOL: (1, rng.randrange(2)), INT: (2, rng.getrandbits(32))}[goal]
+    if goal in ((INT, (INT, INT)), (INT, (INT, BOOL))):
+        return (3, rng.randrange(5) + 5 * (goal[1][1] == BOOL))
+    x = some_name(rng)
+    if type(goal) is tuple:
+        return fun(x, small(rng, goal[1], {**env, x: goal[0]}))
+    return name(rng.choice(fitting)) if fitting else (9, x, name(x))
+
+
+def typed(rng, goal, env, size):
+    """An expression of about so many nodes with the type that is aimed at, for names of the types in `env`."""
+    if size < 3:
+        return small(rng, goal, env)
+    x, size = some_name(rng), size - 1
+    way = rng.random()
+    if type(goal) is tuple and way < 0.5:
+        return fun(x, typed(rng, goal[1], {**env, x: goal[0]}, size))
+    if goal in (INT, BOOL) and way < 0.3:
+        operator = (3, rng.randrange(5) + 5 * (goal == BOOL))
+        return apply(operator, typed(rng, INT, env, size // 2), typed(rng, INT, env, size // 2))
+    if way < 0.65:
+        functions = [(y, t) for y, t in env.items() if type(t) is tuple and t[1] == goal]
+        if functions:
+            y, (takes, _) = rng.choice(functions)
+            return apply(name(y), typed(rng, takes, env, size - 1))
+        takes = some_type(rng)
+        return apply(typed(rng, (takes, goal), env, size // 2), typed(rng, takes, env, size // 2))
+    if way < 0.8:
+        bound = some_type(rng)
+        return (8, x, typed(rng, bound, env, size // 2), typed(rng, goal, {**env, x: bound}, size // 2))
+    if way < 0.9:
+        return (6, typed(rng, BOOL, env, size // 3), typed(rng, goal, env, size // 3), typed(rng, goal, env, size // 3))
+    return (9, x, typed(rng, goal, {**env, x: goal}, size))
+
+
+def bundled(rng, env, size):
+    """fun s -> s e e, where each e is typed or a bundle again: its type holds all of theirs."""
+    if size < 6:
+        return typed(rng, some_type(rng), env, size)
+    x = some_name(rng)
+    if rng.random() < 0.3:
+        return fun(x, bundled(rng, {**env, x: some_type(rng)}, size - 1))
+    outer = {y: t for y, t in env.items() if y != x}
+    return fun(x, apply(name(x), bundled(rng, outer, size // 2), bundled(rng, outer, size // 2)))
+
+
+def untyped(rng, names, size):
+    """An expression of bound names, applications and binders only: where such a one has no type, a variable is in its own."""
+    if names and size < 3:
+        return name(rng.choice(names))
+    x, way = some_name(rng), rng.random()
+    if not names or way < 0.4:
+        return (rng.choice([7, 7, 9]), x, untyped(rng, names + (x,), size - 1))
+    if way < 0.9:
+        return apply(untyped(rng, names, size // 2), untyped(rng, names, size // 2))
+    return (8, x, untyped(rng, names, size // 2), untyped(rng, names + (x,), size // 2))
+
+
+def with_another_leaf(rng, words):
+    """One leaf of a table becomes another constant, or a name that some node binds."""
+    words = list(words)
+    at = rng.choice([at for at in range(0, len(words), 4) if words[at] < 5])
+    names = [words[k + 1] for k in range(0, len(words), 4) if words[k] > 6]
+    leaf = name(rng.choice(names)) if names and rng.random() < 0.6 else some_constant(rng)
+    words[at:at + 4] = (leaf + (0, 0))[:4] if len(leaf) == 2 else [0] * 4
+    return words
+
+
+def table(rng, size):
+    way = rng.random()
+    if way < 0.15:
+        return tree(rng, size)
+    if way < 0.35:
+        return table_of(untyped(rng, (), size), rng)
+    words = table_of(bundled(rng, {}, size) if rng.random() < 0.4 else typed(rng, some_type(rng), {}, size), rng)
+    if way < 0.6:
+        words = with_another_leaf(rng, words)
+    return damaged(rng, words) if way > 0.95 else words
+
+
+def rooms(rng, inference):
+    """Lengths of work and out for a table: those that suffice, and those around each limit."""
+    needs, length = min(inference.needs, LONGEST), min(inference.length or 3, LONGEST)
+    yield needs, min(LONGEST, length + rng.choice([0, 0, 1, 5, 64]))
+    yield min(LONGEST, needs + rng.choice([0, 1, 7, 300])), rng.choice([length - 1, length - 1, 0, rng.randrange(length)])
+    yield rng.choice([needs - 1, rng.randrange(needs), needs, needs + 1]), length
+
+
+def cases(count):
+    """Each with its table, work, out, and what the table decides."""
+    rng = random.Random(40)
+    for words, (work, out), _ in BENCH:
+        yield words, work, out, Inference(words)
+    made = 0
+    while made < count:
+        words = table(rng, rng.choice([1, 2, 4, 8, 12, 16, 24, 40] if made % 20 else [100, 300, 500]))
+        if len(words) > 2100:
+            continue
+        inference = Inference(words)
+        for work, out in rooms(rng, inference):
+            yield words, work, out, inference
+            made += 1
+
+
+def main():
+    program, count = sys.argv[1], int(sys.argv[2]) if len(sys.argv) > 2 else 30000
+    sys.setrecursionlimit(20000)
+    for words, room, wanted in BENCH:
+        if Inference(words).answer(*room) != wanted:
+            sys.exit("the second inference gives %s for %s with %s, and the scope says %s"
+                     % (Inference(words).answer(*room), words, room, wanted))
+    asked = list(cases(count))
+    answers = lines(program, [trial(INFER, (work, out, 0), words) for words, work, out, _ in asked])
+    codes, reasons, typable = {}, {"clash": 0, "cycle": 0}, 0
+    for (words, work, out, inference), answer in zip(asked, answers):
+        wanted = inference.answer(work, out) + " left"
+        if answer != wanted:
+            sys.exit("the table %s with work %d and out %d: wanted %s, the program says %s" % (words, work, out, wanted, answer))
+        code = int(wanted.split()[0])
+        codes[code] = codes.get(code, 0) + 1
+        typable += inference.length is not None
+        if code == 6:
+            reasons[inference.reason] += 1
+    hardly = [code for code in range(8) if codes.get(code, 0) < 5] + [reason for reason in reasons if reasons[reason] < 5]
+    if hardly or 3 * typable < len(asked):
+        sys.exit("hardly met: %s of %s, %s; %d have a type" % (hardly, codes, reasons, typable))
+    print("%d inferences agree: %s; 6 for a clash %d, for a cycle %d; %d have a type"
+          % (len(asked), ", ".join("%d %d" % pair for pair in sorted(codes.items())), reasons["clash"], reasons["cycle"], typable))
+
+
+if __name__ == "__main__":
+    main()
