@@ -6,14 +6,11 @@ use mathlib.Core.Logic.{_≢_}
 use native.Mathlib.Decide.{ℕ-discrete}
 use native.Mathlib.Omega.{arith}
 use Rattle.table.specs.Refusals.{once}
+use Rattle.table.specs.Placed.{once-small}
 
 unfoldable pub count : (ℕ → Bool) → ℕ → ℕ
 count p zero = 0
 count p (suc n) = once (p n) + count p n
-
-once-small : (t : Bool) → once t ≤ 1
-once-small true = omega arith
-once-small false = omega arith
 
 pub count-bound : (p : ℕ → Bool) (n : ℕ) → count p n ≤ n
 unfolding count

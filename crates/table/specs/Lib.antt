@@ -21,6 +21,7 @@ pub mod ClosedFormula
 -- What the code computes.
 pub mod SearchLoop
 pub mod Parents
+pub mod Placed
 pub mod Lookup
 pub mod Stages
 pub mod RuleLaws

@@ -11,7 +11,7 @@ use Rattle.language.specs.Expression.{Constant, Name}
 use Rattle.table.specs.Node.{Node, constant-node, name-node, application-node, if-node, lambda-node, let-node, rec-node, Field, field-a, field-b, field-c, wordAt, nodeOf, nodeAt}
 use Rattle.table.specs.Scope.{bindsIn, isNamed, nameOf}
 use Rattle.table.specs.Refusals.{once, timesIn}
-use Rattle.table.specs.Reading.{wordsAt, nodeIn, metIn, met, aboveIf, bindingIf, letMet}
+use Rattle.table.specs.Reading.{wordsAt, nodeIn, childrenIn, metIn, met, aboveIf, bindingIf, letMet}
 use Rattle.table.specs.declared.NodeWords.{NodeWords}
 use Rattle.table.specs.declared.Met.the-variants.{Elsewhere}
 
@@ -46,11 +46,20 @@ pub leaf-holds-nothing : {node : Node} → Leaf node → (k : ℕ) → timesIn n
 leaf-holds-nothing a-constant k = refl
 leaf-holds-nothing a-name k = refl
 
+pub leaf-has-no-child : {node : Node} → Leaf node → childrenIn node ≡ 0
+leaf-has-no-child a-constant = refl
+leaf-has-no-child a-name = refl
+
 pub leaf-is-no-parent : {node : Node} → Leaf node → (x k : ℕ) → met node x k ≡ Elsewhere
 leaf-is-no-parent a-constant x k = refl
 leaf-is-no-parent a-name x k = refl
 
 -- ---- Kinds with children
+
+pub child-of-one : (kind a b c : ℕ) → (kind ≡ 7) ⊎ (kind ≡ 9) → childrenIn (nodeOf kind a b c) ≡ 1
+unfolding nodeOf
+child-of-one kind a b c (inl e) = rw e refl
+child-of-one kind a b c (inr e) = rw e refl
 
 module _ (kind a b c k : ℕ) where
   -- A lambda and a rec have one child, in field b.

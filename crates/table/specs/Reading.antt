@@ -1,14 +1,14 @@
 -- The table as the code reads it: a node in four words, and what a walk sees of it.
-use Prim.Native.Nat.{ℕ, _+_, _*_}
+use Prim.Native.Nat.{ℕ, zero, suc, _+_, _*_}
 use mathlib.Core.Bool.{Bool, true, false, not, cond, _&&_}
 use mathlib.Core.List.{List, []}
 use mathlib.Core.Option.{Option, none, some}
 use lib.Dec.{eqb, ltb}
 use Rattle.language.specs.Expression.{Name}
-use Rattle.table.specs.Node.{Node, Nodes, Field, wordAt, nodeOf, nodeAt}
+use Rattle.table.specs.Node.{Node, Nodes, Field, field-a, field-b, field-c, child, wordAt, nodeOf, nodeAt}
 use Rattle.table.specs.Walk.{fieldHolding, climbFrom}
 use Rattle.table.specs.Scope.{bindsIn, enter, isNamed, firstNamed, binderOf}
-use Rattle.table.specs.Refusals.{countOf, timesBelow}
+use Rattle.table.specs.Refusals.{countOf, once, timesBelow, isSome}
 use Rattle.table.specs.declared.NodeWords.{NodeWords}
 use Rattle.table.specs.declared.Met.{Met}
 use Rattle.table.specs.declared.Met.the-variants.{Elsewhere, Above, Binding}
@@ -79,3 +79,13 @@ isNowhere Nowhere = true
 -- The binder of node k of a table. A node that is no name or is not there has none.
 abbrev pub binderIn : List ℕ → ℕ → Bound
 binderIn words k = binderAnswer (cond (ltb k (countOf words)) (binderOf (nodeAt words) k) none)
+
+-- ---- Children
+
+-- How many children fields a node has, and all nodes below n.
+abbrev pub childrenIn : Node → ℕ
+childrenIn node = once (isSome (child node field-a)) + once (isSome (child node field-b)) + once (isSome (child node field-c))
+
+unfoldable pub childrenBelow : Nodes → ℕ → ℕ
+childrenBelow nd zero = 0
+childrenBelow nd (suc n) = childrenBelow nd n + childrenIn (nd n)

@@ -1,12 +1,13 @@
 // The formula table: the check (refusals 1 to 4) and the binder of a name. A table is a slice of words, four for each node.
 ghost use Prim.Native.Nat.{_+_, _*_, _≤_, _<_};
 ghost use mathlib.Core.Path.{_≡_};
-ghost use mathlib.Core.Bool.{not, _&&_};
+ghost use mathlib.Core.Bool.{true, not, _&&_};
+ghost use mathlib.Core.Option.{none};
 ghost use lib.ListN.{length};
 ghost use Rattle.table.specs.Node.{wordAt, nodeAt};
 ghost use Rattle.table.specs.Scope.{scope, firstNamed};
-ghost use Rattle.table.specs.Refusals.{miscount, countOf, fits, fitsRule, isChild, once, timesIn, unbound, firstFrom, refuseAt, checkOf};
-ghost use Rattle.table.specs.Reading.{wordsAt, nodeIn, misplacedBelow, aboveIf, bindingIf, letMet, met, binderAnswer, isNowhere, binderIn};
+ghost use Rattle.table.specs.Refusals.{miscount, countOf, fits, fitsRule, isChild, once, timesIn, timesBelow, unbound, firstFrom, refuseAt, checkOf};
+ghost use Rattle.table.specs.Reading.{wordsAt, nodeIn, misplacedBelow, childrenIn, childrenBelow, aboveIf, bindingIf, letMet, met, binderAnswer, isNowhere, binderIn};
 
 // What the check of a table answers.
 pub enum Verdict {
@@ -215,6 +216,86 @@ fn parents(words: &[u32], n: u32) -> Verdict
     }
 }
 
+// How many children fields a node has.
+fn children_in(w: NodeWords) -> u32
+    ensures { λ r. ⌜ (r ≡ childrenIn (nodeIn w)) × (r ≤ 3) ⌝ }
+{
+    let kind = w.kind;
+    match kind {
+        5 => 2,
+        6 => 3,
+        7 | 9 => 1,
+        8 => 2,
+        _ => 0,
+    }
+}
+
+fn children_at(words: &[u32], p: u32) -> u32
+    requires { ⌜ 4 * p + 4 ≤ length (now words) ⌝ }
+    ensures { λ r. ⌜ (r ≡ childrenIn (nodeAt (now (words .entry)) p)) × (r ≤ 3) ⌝ }
+{
+    children_in(node_at(words, p))
+}
+
+fn children(words: &[u32], n: u32) -> u64
+    requires { ⌜ 4 * n ≤ length (now words) ⌝ }
+    ensures { λ r. ⌜ (r ≡ childrenBelow (nodeAt (now (words .entry))) n) × (r ≤ 3 * n) ⌝ }
+{
+    let mut count: u64 = 0;
+    let mut p: u32 = 0;
+    while p < n {
+        count += children_at(words, p) as u64;
+        p += 1;
+    }
+    count
+}
+
+// Is node k a child of a node below it? The nearest are asked first.
+fn has_parent(words: &[u32], k: u32) -> bool
+    requires { ⌜ 4 * k ≤ length (now words) ⌝ }
+    ensures { λ r. ⌜ (r ≡ true → 1 ≤ timesBelow (nodeAt (now (words .entry))) k k) ⌝ }
+{
+    let mut p = k;
+    while 0 < p {
+        p -= 1;
+        if 0 < times_at(words, p, k) {
+            return true;
+        }
+    }
+    false
+}
+
+// Where each node but 0 is a child, and there are no more children than these, each is a child exactly once. That is found without a scan of
+// all nodes for each.
+fn placed(words: &[u32], n: u32) -> bool
+    requires { ⌜ 4 * n ≤ length (now words) ⌝ }
+    ensures { λ r. ⌜ (r ≡ true → firstFrom (misplacedBelow (nodeAt (now (words .entry)))) n 0 ≡ none) ⌝ }
+{
+    if children(words, n) + 1 != n as u64 {
+        return false;
+    }
+    let mut k: u32 = 1;
+    while k < n {
+        if has_parent(words, k) {
+            k += 1;
+        } else {
+            return false;
+        }
+    }
+    true
+}
+
+// Code 3, by scans only where a node is misplaced.
+fn rooted(words: &[u32], n: u32) -> Verdict
+    requires { ⌜ (4 * n ≤ length (now words)) × (0 < n) ⌝ }
+    ensures { λ r. ⌜ r ≡ refuseAt 3 (firstFrom (misplacedBelow (nodeAt (now (words .entry)))) n 0) (Verdict.Nodes n) ⌝ }
+{
+    if placed(words, n) {
+        return Verdict::Nodes(n);
+    }
+    parents(words, n)
+}
+
 // A node that the walk in search of a binder meets.
 enum Met {
     // It is no parent of the current node.
@@ -354,9 +435,9 @@ pub fn check(words: &[u32]) -> Verdict
     let Verdict::Nodes(_) = fielded else {
         return fielded;
     };
-    let rooted = parents(words, n);
-    let Verdict::Nodes(_) = rooted else {
-        return rooted;
+    let placed = rooted(words, n);
+    let Verdict::Nodes(_) = placed else {
+        return placed;
     };
     names(words, n)
 }

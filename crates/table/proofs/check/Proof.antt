@@ -35,8 +35,8 @@ returns-2 c =
     let n = c .before .before .before .before .counted .given .0 .0 in
     fields-halt words n (after-count words n (c .before .before .before .before .before .before .count .ensures) (c .before .before .before .before .counted .given .1)) (c .before .before .fields .ensures) (c .enum-told3 .given .1)
 
-parents-requires : tie.Need-parents-requires
-parents-requires c κs =
+rooted-requires : tie.Need-rooted-requires
+rooted-requires c κs =
     let words = c .before .before .before .before .before .before .before .before .args .words .now in
     let n = c .before .before .before .before .counted .given .0 .0 in
     counted-nodes words n (c .before .before .before .before .before .before .count .ensures) (c .before .before .before .before .counted .given .1)
@@ -52,7 +52,7 @@ returns-3 c =
     let words = c .before .before .before .before .before .before .before .before .before .before .before .args .words .now in
     let n = c .before .before .before .before .before .before .before .counted .given .0 .0 in
     let fitted = after-fields words n (after-count words n (c .before .before .before .before .before .before .before .before .before .count .ensures) (c .before .before .before .before .before .before .before .counted .given .1)) (c .before .before .before .before .before .fields .ensures) (c .before .before .before .enum-told2 .given .1) in
-    parents-halt words n fitted (c .before .before .parents .ensures) (c .enum-told5 .given .1)
+    parents-halt words n fitted (c .before .before .rooted .ensures) (c .enum-told5 .given .1)
 
 names-requires : tie.Need-names-requires
 names-requires c κs =
@@ -65,7 +65,7 @@ returns-4 c =
     let words = c .before .before .before .before .before .before .before .before .before .before .before .before .args .words .now in
     let n = c .before .before .before .before .before .before .before .before .counted .given .0 .0 in
     let fitted = after-fields words n (after-count words n (c .before .before .before .before .before .before .before .before .before .before .count .ensures) (c .before .before .before .before .before .before .before .before .counted .given .1)) (c .before .before .before .before .before .before .fields .ensures) (c .before .before .before .before .enum-told2 .given .1) in
-    c .names .ensures ∙ sym (after-parents words n fitted (c .before .before .before .parents .ensures) (c .before .enum-told4 .given .1))
+    c .names .ensures ∙ sym (after-parents words n fitted (c .before .before .before .rooted .ensures) (c .before .enum-told4 .given .1))
 
 pub check-spec : {M : Type 1} → statement M
 check-spec =
@@ -79,7 +79,7 @@ check-spec =
     enum-told-2
     enum-told-3
     returns-2
-    parents-requires
+    rooted-requires
     enum-told-4
     enum-told-5
     returns-3
