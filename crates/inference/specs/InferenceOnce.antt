@@ -38,7 +38,7 @@ module _ (P : ℕ → Type 0) (p₁ : P 1) (p₂ : P 2) (p₃ : P 3) (p₄ : P 4
   first-fault-decides none none none none n = tt
 
   -- What is true of 1 to 4 is true of the code of every refusal.
-  true-of-refusal-code : (words : List ℕ) {code place : ℕ} → checkOf words ≡ Turned code place → P code
+  pub true-of-refusal-code : (words : List ℕ) {code place : ℕ} → checkOf words ≡ Turned code place → P code
   unfolding checkOf
   true-of-refusal-code words v =
       let n = countOf words in

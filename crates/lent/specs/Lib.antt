@@ -1,3 +1,7 @@
 -- Lent slices of words.
 pub mod Zeroing
 pub mod Prefix
+pub mod Smaller
+pub mod Bytes
+pub mod Overwriting
+pub mod ByteLaws

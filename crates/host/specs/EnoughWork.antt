@@ -1,0 +1,15 @@
+-- The inference entry never answers 5: its work is enough for 512 nodes.
+use Prim.Native.Nat.{ℕ}
+use mathlib.Core.Logic.{_≢_}
+use mathlib.Core.List.{List}
+use native.Mathlib.Omega.{arith}
+use lib.ListN.{length-replicate}
+use Rattle.table.specs.Accepted.{accepted-is-checked}
+use Rattle.inference.specs.Inference.{codeOf}
+use Rattle.inference.specs.InferenceOnce.{code-5-exactly}
+use Rattle.host.specs.Entries.{InfersOn}
+
+pub never-work-short : {words out out′ : List ℕ} {r : ℕ} (i : InfersOn words out out′ r) → codeOf (i .after .answer) ≢ 5
+never-work-short {words} i five =
+    let (n, v, short) = code-5-exactly (i .infers) .0 five in
+    omega (arith, accepted-is-checked words n v .at-most-512, length-replicate {A = ℕ} 12304 0)
