@@ -66,11 +66,15 @@ static bool placed(const struct node *nodes, uint32_t n) {
     return true;
 }
 
+/* Does k stand in a field of a node that has children? */
+static bool mentions(const struct node *w, uint32_t k) { return w->kind >= 5 && (w->b == k || w->c == k || w->a == k); }
+
 /* The binder of the name x at node k, or -1. */
 static int32_t binder(const struct node *nodes, uint32_t x, uint32_t k) {
     uint32_t current = k;
     for (uint32_t p = k; p > 0;) {
         const struct node *w = &nodes[--p];
+        if (!mentions(w, current)) continue;
         switch (w->kind) {
         case 5:
             if (w->a == current || w->b == current) current = p;

@@ -1,5 +1,5 @@
 -- The walk in search of a binder, one node at a time.
-use Prim.Native.Nat.{ℕ, zero, suc, _-_, _<_}
+use Prim.Native.Nat.{ℕ, zero, suc, _*_, _-_, _/_, _≤_, _<_}
 use mathlib.Core.Path.{_≡_, refl, sym, _∙_, ap}
 use mathlib.Core.Bool.{Bool, true, false, not, cond, _&&_}
 use mathlib.Core.List.{[], _∷_}
@@ -58,6 +58,41 @@ module _ (nd : Nodes) (x : Name) where
       go Binding h rest =
           let same : p ≡ b = cc in
           omega arith
+
+-- ---- The loop of the walk
+
+-- The loop goes by the numbers of words, four for each node: before word i, what is left to find is the whole answer.
+pub record Walking (nd : Nodes) (x : Name) (k current i : ℕ) : Type 0 where
+  pub within : i ≤ 4 * k
+  pub whole : i ≡ 4 * (i / 4)
+  pub same : foundBelow nd x current (i / 4) ≡ foundBelow nd x k k
+
+module _ {nd : Nodes} {x : Name} {k : ℕ} where
+  pub walk-starts : Walking nd x k k (4 * k)
+  walk-starts = record { within = omega arith; whole = omega arith; same = ap (foundBelow nd x k) (omega arith) }
+
+  module _ {current i : ℕ} (w : Walking nd x k current i) where
+    down : 0 < i → (m : Met) → met (nd ((i - 4) / 4)) x current ≡ m → onwards nd x m current ((i - 4) / 4) ≡ foundBelow nd x k k
+    down h m e =
+        let next : (i - 4) / 4 ≡ i / 4 - 1 = omega arith in
+        let some-left : 0 < i / 4 = omega (arith, w .whole) in
+        rw next (sym (found-down nd x current (i / 4) some-left m (rw next at e)) ∙ w .same)
+
+    pub walk-passes : 0 < i → met (nd ((i - 4) / 4)) x current ≡ Elsewhere → Walking nd x k current (i - 4)
+    walk-passes h e = record { within = omega (arith, w .within); whole = omega (arith, w .whole); same = down h Elsewhere e }
+
+    pub walk-climbs : 0 < i → met (nd ((i - 4) / 4)) x current ≡ Above → Walking nd x k ((i - 4) / 4) (i - 4)
+    walk-climbs h e = record { within = omega (arith, w .within); whole = omega (arith, w .whole); same = down h Above e }
+
+    pub walk-finds : 0 < i → met (nd ((i - 4) / 4)) x current ≡ Binding → foundBelow nd x k k ≡ some ((i - 4) / 4)
+    walk-finds h e = sym (down h Binding e)
+
+    pub walk-ends : i ≤ 0 → foundBelow nd x k k ≡ none
+    walk-ends h =
+        let none-left : i / 4 ≡ 0 = omega arith in
+        sym (w .same) ∙ ap (foundBelow nd x current) none-left ∙ found-nothing nd x current
+
+-- ---- No binder
 
 -- A name that is bound nowhere has no binder.
 pub nowhere-is-none : (o : Option ℕ) → isNowhere (binderAnswer o) ≡ not (isSome o)

@@ -1,12 +1,13 @@
 -- A node read from its words, kind by kind, where the code treats several kinds alike.
-use Prim.Native.Nat.{ℕ, zero, suc, _+_, _*_}
+use Prim.Native.Nat.{ℕ, zero, suc, _+_, _*_, _/_, _<_}
 use mathlib.Core.Path.{_≡_, refl, sym, _∙_, ap}
-use mathlib.Core.Logic.{_⊎_, inl, inr}
+use mathlib.Core.Logic.{_⊎_, inl, inr, ⊎-elim}
 use mathlib.Core.Bool.{Bool, true, false, cond}
 use mathlib.Core.List.{List}
 use mathlib.Core.Option.{none, some}
 use native.Mathlib.Omega.{arith}
 use lib.Dec.{eqb}
+use borrow.Author.Tests.{ne-eqb}
 use Rattle.language.specs.Expression.{Constant, Name}
 use Rattle.table.specs.Node.{Node, constant-node, name-node, application-node, if-node, lambda-node, let-node, rec-node, Field, field-a, field-b, field-c, wordAt, nodeOf, nodeAt}
 use Rattle.table.specs.Scope.{bindsIn, isNamed, nameOf}
@@ -41,6 +42,9 @@ leaf (suc (suc (suc (suc (suc (suc (suc zero))))))) a b c not5 not6 not79 not8 =
 leaf (suc (suc (suc (suc (suc (suc (suc (suc zero)))))))) a b c not5 not6 not79 not8 = absurd (not8 refl)
 leaf (suc (suc (suc (suc (suc (suc (suc (suc (suc zero))))))))) a b c not5 not6 not79 not8 = absurd (not79 (inr refl))
 leaf (suc (suc (suc (suc (suc (suc (suc (suc (suc (suc k)))))))))) a b c not5 not6 not79 not8 = a-constant
+
+low-leaf : (kind a b c : ℕ) → kind < 5 → Leaf (nodeOf kind a b c)
+low-leaf kind a b c low = leaf kind a b c (λ e. omega arith) (λ e. omega arith) (⊎-elim (λ e. omega arith) (λ e. omega arith)) (λ e. omega arith)
 
 pub leaf-holds-nothing : {node : Node} → Leaf node → (k : ℕ) → timesIn node k ≡ 0
 leaf-holds-nothing a-constant k = refl
@@ -104,6 +108,39 @@ module _ (kind a b c k : ℕ) where
         go true q = refl
         go false true = refl
         go false false = refl
+
+-- ---- Nodes that the walk in search of a binder passes
+
+-- Words i to i + 3 are a node that is no parent of k, whatever name is searched for.
+pub record Passed (words : List ℕ) (i k : ℕ) : Type 0 where
+  pub elsewhere : (x : Name) → met (nodeOf (wordAt words i) (wordAt words (i + 1)) (wordAt words (i + 2)) (wordAt words (i + 3))) x k ≡ Elsewhere
+
+-- A node without k in its fields is no parent of k.
+fields-differ : (kind a b c k : ℕ) → eqb a k ≡ false → eqb b k ≡ false → eqb c k ≡ false → (x : Name) → met (nodeOf kind a b c) x k ≡ Elsewhere
+unfolding nodeOf
+fields-differ zero a b c k da db dc x = refl
+fields-differ (suc zero) a b c k da db dc x = refl
+fields-differ (suc (suc zero)) a b c k da db dc x = refl
+fields-differ (suc (suc (suc zero))) a b c k da db dc x = refl
+fields-differ (suc (suc (suc (suc zero)))) a b c k da db dc x = refl
+fields-differ (suc (suc (suc (suc (suc zero))))) a b c k da db dc x = rw (da, db)
+fields-differ (suc (suc (suc (suc (suc (suc zero)))))) a b c k da db dc x = rw (da, db, dc)
+fields-differ (suc (suc (suc (suc (suc (suc (suc zero))))))) a b c k da db dc x = rw db
+fields-differ (suc (suc (suc (suc (suc (suc (suc (suc zero)))))))) a b c k da db dc x = rw (db, dc)
+fields-differ (suc (suc (suc (suc (suc (suc (suc (suc (suc zero))))))))) a b c k da db dc x = rw db
+fields-differ (suc (suc (suc (suc (suc (suc (suc (suc (suc (suc n)))))))))) a b c k da db dc x = refl
+
+module _ {words : List ℕ} {i k : ℕ} where
+  pub leaf-passed : wordAt words i < 5 → Passed words i k
+  leaf-passed low = record { elsewhere = λ x. leaf-is-no-parent (low-leaf (wordAt words i) _ _ _ low) x k }
+
+  pub others-passed : eqb (wordAt words (i + 1)) k ≡ false → (wordAt words (i + 2) ≡ k → ⊥) → (wordAt words (i + 3) ≡ k → ⊥) → Passed words i k
+  others-passed da db dc = record { elsewhere = fields-differ (wordAt words i) _ _ _ k da (ne-eqb _ _ db) (ne-eqb _ _ dc) }
+
+  -- The walk goes by the numbers of words, four for each node.
+  pub passed : Passed words i k → i ≡ 4 * (i / 4) → (x : Name) → met (nodeAt words (i / 4)) x k ≡ Elsewhere
+  unfolding nodeAt
+  passed by whole x = rw (sym whole) (by .elsewhere x)
 
 -- ---- Names
 

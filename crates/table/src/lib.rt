@@ -1,13 +1,14 @@
 // The formula table: the check (refusals 1 to 4) and the binder of a name. A table is a slice of words, four for each node.
 ghost use Prim.Native.Nat.{_+_, _*_, _≤_, _<_};
 ghost use mathlib.Core.Path.{_≡_};
-ghost use mathlib.Core.Bool.{true, not, _&&_};
+ghost use mathlib.Core.Bool.{true, false, not, _&&_};
 ghost use mathlib.Core.Option.{none};
 ghost use lib.ListN.{length};
 ghost use Rattle.table.specs.Node.{wordAt, nodeAt};
 ghost use Rattle.table.specs.Scope.{scope, firstNamed};
 ghost use Rattle.table.specs.Refusals.{miscount, countOf, fits, fitsRule, isChild, once, timesIn, timesBelow, unbound, firstFrom, refuseAt, checkOf};
 ghost use Rattle.table.specs.Reading.{wordsAt, nodeIn, misplacedBelow, childrenIn, childrenBelow, aboveIf, bindingIf, letMet, met, binderAnswer, isNowhere, binderIn};
+ghost use Rattle.table.specs.NodeLaws.{Passed};
 
 // What the check of a table answers.
 pub enum Verdict {
@@ -339,27 +340,46 @@ fn of_let(bound: bool, body: bool, named: bool) -> Met
     }
 }
 
-fn meet(w: NodeWords, x: u32, current: u32) -> Met
-    ensures { λ r. ⌜ r ≡ met (nodeIn w) x current ⌝ }
-{
-    let kind = w.kind;
-    let a = w.a;
-    let b = w.b;
-    let c = w.c;
-    match kind {
-        5 => above(a == current, b == current, false),
-        6 => above(a == current, b == current, c == current),
-        7 | 9 => binding(b == current, a == x),
-        8 => of_let(b == current, c == current, a == x),
-        _ => Met::Elsewhere,
-    }
-}
-
+// A walk meets many nodes: a field is read only where the kind needs it.
 fn meet_at(words: &[u32], p: u32, x: u32, current: u32) -> Met
     requires { ⌜ 4 * p + 4 ≤ length (now words) ⌝ }
     ensures { λ r. ⌜ r ≡ met (nodeAt (now (words .entry)) p) x current ⌝ }
 {
-    meet(node_at(words, p), x, current)
+    let i = 4 * (p as usize);
+    let kind = words[i];
+    match kind {
+        5 => above(words[i + 1] == current, words[i + 2] == current, false),
+        6 => above(
+            words[i + 1] == current,
+            words[i + 2] == current,
+            words[i + 3] == current,
+        ),
+        7 | 9 => binding(words[i + 2] == current, words[i + 1] == x),
+        8 => {
+            let bound = words[i + 2] == current;
+            let body = words[i + 3] == current;
+            of_let(bound, body, words[i + 1] == x)
+        }
+        _ => Met::Elsewhere,
+    }
+}
+
+// Has the node at word i children, and does k stand in a field of it? Where not, it is no parent of k, and most nodes on a walk are passed
+// by this test alone.
+fn mentions(words: &[u32], i: usize, k: u32) -> bool
+    requires { ⌜ i + 4 ≤ length (now words) ⌝ }
+    ensures { λ r. ⌜ (r ≡ false → Passed (now (words .entry)) i k) ⌝ }
+{
+    if words[i] < 5 {
+        return false;
+    }
+    if words[i + 2] == k {
+        return true;
+    }
+    if words[i + 3] == k {
+        return true;
+    }
+    words[i + 1] == k
 }
 
 // The binder of the name x at node k.
@@ -368,18 +388,21 @@ fn lookup(words: &[u32], x: u32, k: u32) -> Bound
     ensures { λ r. ⌜ r ≡ binderAnswer (firstNamed (nodeAt (now (words .entry))) x (scope (nodeAt (now (words .entry))) k)) ⌝ }
 {
     let mut current = k;
-    let mut p = k;
-    while 0 < p {
-        p -= 1;
-        let met = meet_at(words, p, x, current);
-        match met {
-            Met::Binding => {
-                return Bound::At(p);
+    let mut at = 4 * (k as usize);
+    while 0 < at {
+        at -= 4;
+        if mentions(words, at, current) {
+            let p = (at / 4) as u32;
+            let met = meet_at(words, p, x, current);
+            match met {
+                Met::Binding => {
+                    return Bound::At(p);
+                }
+                Met::Above => {
+                    current = p;
+                }
+                Met::Elsewhere => {}
             }
-            Met::Above => {
-                current = p;
-            }
-            Met::Elsewhere => {}
         }
     }
     Bound::Nowhere

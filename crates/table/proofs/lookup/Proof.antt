@@ -1,26 +1,34 @@
--- `table::lookup` meets its contract. The loop's invariant: the walk from the current node, through the nodes that are left, finds what
+-- `table::lookup` meets its contract. The loop's invariant: the walk from the current node, through the words that are left, finds what
 -- the whole walk finds.
-use Prim.Native.Nat.{_≤_}
-use mathlib.Core.Path.{_≡_, refl, sym, _∙_, ap}
+use mathlib.Core.Path.{sym, _∙_, ap}
 use native.Mathlib.Omega.{arith}
-use Rattle.table.specs.declared.Met.the-variants.{Elsewhere, Above, Binding}
-use Rattle.table.specs.Lookup.{found-nothing, found-down}
-use Rattle.table.specs.Reading.{foundBelow, binderAnswer}
+use Rattle.table.specs.Lookup.{Walking, walk-starts, walk-passes, walk-climbs, walk-finds, walk-ends}
+use Rattle.table.specs.NodeLaws.{passed}
+use Rattle.table.specs.Reading.{binderAnswer}
 use Rattle.table.specs.Node.{nodeAt}
 use Rattle.table.proofs.lookup.Statement.{statement}
 use Rattle.table.proofs.lookup.Tie as tie
 
 abbrev Inv-loop : tie.InvT-loop
-Inv-loop words x k current₀ p₀ current p = (p ≤ k) × (foundBelow (nodeAt words) x current p ≡ foundBelow (nodeAt words) x k k)
+Inv-loop words x k current₀ at₀ current at = Walking (nodeAt words) x k current at
 
 abbrev μ-loop : tie.MeasureT-loop
-μ-loop words x k current₀ p₀ current p = p
+μ-loop words x k current₀ at₀ current at = at
+
+mul-at : tie.Need-mul-at Inv-loop μ-loop
+mul-at c = omega arith
 
 loop-holds : tie.Need-loop-holds Inv-loop μ-loop
-loop-holds c = (omega arith, refl)
+loop-holds c = walk-starts
 
-sub-p : tie.Need-sub-p Inv-loop μ-loop
-sub-p c = omega arith
+sub-at : tie.Need-sub-at Inv-loop μ-loop
+sub-at c = omega arith
+
+mentions-requires : tie.Need-mentions-requires Inv-loop μ-loop
+mentions-requires c κs = omega arith
+
+cast-p : tie.Need-cast-p Inv-loop μ-loop
+cast-p c = omega arith
 
 meet-at-requires : tie.Need-meet-at-requires Inv-loop μ-loop
 meet-at-requires c κs = omega arith
@@ -29,7 +37,8 @@ enum-told : tie.Need-enum-told Inv-loop μ-loop
 enum-told c = c .match .keys1
 
 returns : tie.Need-returns Inv-loop μ-loop
-returns c = ap binderAnswer (sym (found-down _ _ _ _ (c .before .before .before .loop-test .taken) Binding (sym (c .before .before .meet-at .ensures) ∙ c .enum-told .given .1)) ∙ c .before .before .before .before .loop .inv .1)
+returns c =
+    ap binderAnswer (sym (walk-finds (c .before .before .before .before .before .before .loop .inv) (c .before .before .before .before .before .loop-test .taken) (sym (c .before .before .meet-at .ensures) ∙ c .enum-told .given .1)))
 
 enum-told-2 : tie.Need-enum-told-2 Inv-loop μ-loop
 enum-told-2 c = c .match .keys2
@@ -38,7 +47,8 @@ loop-less : tie.Need-loop-less Inv-loop μ-loop
 loop-less c = omega arith
 
 loop-again : tie.Need-loop-again Inv-loop μ-loop
-loop-again c = (omega arith, sym (found-down _ _ _ _ (c .before .before .before .loop-test .taken) Above (sym (c .before .before .meet-at .ensures) ∙ c .enum-told2 .given .1)) ∙ c .before .before .before .before .loop .inv .1)
+loop-again c =
+    walk-climbs (c .before .before .before .before .before .before .loop .inv) (c .before .before .before .before .before .loop-test .taken) (sym (c .before .before .meet-at .ensures) ∙ c .enum-told2 .given .1)
 
 enum-told-3 : tie.Need-enum-told-3 Inv-loop μ-loop
 enum-told-3 c = c .match .keys3
@@ -47,12 +57,19 @@ loop-less-2 : tie.Need-loop-less-2 Inv-loop μ-loop
 loop-less-2 c = omega arith
 
 loop-again-2 : tie.Need-loop-again-2 Inv-loop μ-loop
-loop-again-2 c = (omega arith, sym (found-down _ _ _ _ (c .before .before .before .loop-test .taken) Elsewhere (sym (c .before .before .meet-at .ensures) ∙ c .enum-told3 .given .1)) ∙ c .before .before .before .before .loop .inv .1)
+loop-again-2 c =
+    walk-passes (c .before .before .before .before .before .before .loop .inv) (c .before .before .before .before .before .loop-test .taken) (sym (c .before .before .meet-at .ensures) ∙ c .enum-told3 .given .1)
+
+loop-less-3 : tie.Need-loop-less-3 Inv-loop μ-loop
+loop-less-3 c = omega arith
+
+loop-again-3 : tie.Need-loop-again-3 Inv-loop μ-loop
+loop-again-3 c =
+    let w = c .before .before .before .loop .inv in
+    walk-passes w (c .before .before .loop-test .taken) (passed (c .before .mentions .ensures (c .if1 .left)) (omega (arith, w .whole)) _)
 
 returns-2 : tie.Need-returns-2 Inv-loop μ-loop
-returns-2 c =
-    let none-left : c .before .loop .p ≡ 0 = omega arith in
-    ap binderAnswer (sym (found-nothing _ _ (c .before .loop .current)) ∙ rw none-left at (c .before .loop .inv .1))
+returns-2 c = ap binderAnswer (sym (walk-ends (c .before .loop .inv) (c .loop-test .left)))
 
 pub lookup-spec : {M : Type 1} → statement M
 lookup-spec =
@@ -60,8 +77,11 @@ lookup-spec =
     (tie.spec
     Inv-loop
     μ-loop
+    mul-at
     loop-holds
-    sub-p
+    sub-at
+    mentions-requires
+    cast-p
     meet-at-requires
     enum-told
     returns
@@ -71,4 +91,6 @@ lookup-spec =
     enum-told-3
     loop-less-2
     loop-again-2
+    loop-less-3
+    loop-again-3
     returns-2)
