@@ -6,10 +6,10 @@ mod lines;
 mod runs;
 mod stores;
 mod types;
-mod words;
 
 use libc::STDIN_FILENO;
 ghost use Prim.Native.Nat.{_≤_};
+ghost use mathlib.Core.Path.{_≡_};
 ghost use lib.ListN.{length};
 
 // Makes a call and writes its line, or tells that it cannot be made. The three numbers are a run's fuel and the lengths of its bindings
@@ -25,27 +25,43 @@ fn make_call(words: &[u32], call: u32, first: u32, second: u32, third: u32) -> b
     }
 }
 
+fn room() -> [u8; 8400]
+    ensures { λ r. ⌜ 8400 ≡ length r ⌝ }
+{
+    [0; 8400]
+}
+
+fn space() -> [u32; 2100]
+    ensures { λ r. ⌜ 2100 ≡ length r ⌝ }
+{
+    [0; 2100]
+}
+
+// Reads a trial's table and makes its call.
+fn with_table(call: u32, first: u32, second: u32, third: u32, count: u32) -> bool {
+    let n = count as usize;
+    if 2100 < n {
+        return false;
+    }
+    let mut bytes = room();
+    let length = 4 * n;
+    if io::read_full(STDIN_FILENO, &mut bytes[..length]) < length {
+        return false;
+    }
+    let mut words = space();
+    lent::read_words(&bytes[..length], &mut words);
+    make_call(&words[..n], call, first, second, third)
+}
+
 // Reads and makes one trial, and tells whether to go on.
 fn one_trial() -> bool {
     let mut head = [0u8; 20];
     if io::read_full(STDIN_FILENO, &mut head) < 20 {
         return false;
     }
-    let call = words::word_at(&head, 0);
-    let first = words::word_at(&head, 4);
-    let second = words::word_at(&head, 8);
-    let third = words::word_at(&head, 12);
-    let n = words::word_at(&head, 16) as usize;
-    if 2100 < n {
-        return false;
-    }
-    let mut bytes = words::room();
-    let length = 4 * n;
-    if io::read_full(STDIN_FILENO, &mut bytes[..length]) < length {
-        return false;
-    }
-    let table = words::words_of(&bytes, n);
-    make_call(&table[..n], call, first, second, third)
+    let mut numbers = [0u32; 5];
+    lent::read_words(&head, &mut numbers);
+    with_table(numbers[0], numbers[1], numbers[2], numbers[3], numbers[4])
 }
 
 // A proved loop has to end, and nothing says that the input does: it counts down from a number that no input uses up.

@@ -1,71 +1,58 @@
+-- `trials::with_table` is safe: a table that is read is within the room for it.
+use Prim.Native.Nat.{_*_}
+use mathlib.Core.Path.{sym}
+use native.Mathlib.Omega.{arith}
+use lib.Seq.{length-take-le}
+use Rattle.lent.specs.Prefix.{length-lent, back-fits, length-back}
 use borrow.Author.Needs.{needs}
 use Rattle.trials.proofs.with_table.Statement.{statement}
 use Rattle.trials.proofs.with_table.Tie as tie
-use Rattle.trials.proofs.with_table.Reads as reads
-use Rattle.trials.proofs.with_table.Lts as lts
-use Rattle.io.proofs.read_full.Reads as read-full-reads
-use Rattle.lent.proofs.read_words.Reads as read-words-reads
-use Rattle.trials.proofs.make_call.Reads as make-call-reads
-use Rattle.trials.proofs.room.Reads as room-reads
-use Rattle.trials.proofs.space.Reads as space-reads
 
--- src/main.rt:44:9
 returns : tie.Need-returns
 returns c = search needs
 
--- src/main.rt:46:21
 room-requires : tie.Need-room-requires
 room-requires c κs = search needs
 
--- src/main.rt:47:18
 mul-length : tie.Need-mul-length
 mul-length c = search needs
 
--- src/main.rt:48:36
 array-borrow-prefix-bytes : tie.Need-array-borrow-prefix-bytes
 array-borrow-prefix-bytes c = search needs
 
--- src/main.rt:48:36
 slice-aggregate-read-full : tie.Need-slice-aggregate-read-full
-slice-aggregate-read-full c = ?
+slice-aggregate-read-full c = sym (length-lent (c .before .room .result) (omega arith))
 
--- src/main.rt:48:8
 read-full-requires : tie.Need-read-full-requires
 read-full-requires c κs = search needs
 
--- src/main.rt:49:9
 returns-2 : tie.Need-returns-2
 returns-2 c = search needs
 
--- src/main.rt:51:21
 space-requires : tie.Need-space-requires
 space-requires c κs = search needs
 
--- src/main.rt:52:22
-slice-aggregate-read-words : tie.Need-slice-aggregate-read-words
-slice-aggregate-read-words c = ?
+array-share-prefix-bytes : tie.Need-array-share-prefix-bytes
+array-share-prefix-bytes c = back-fits (c .before .before .before .before .before .room .result) {m = 4 * c .before .before .before .before .before .before .before .args .count} (omega arith) (c .before .before .before .read-full .last .1 .0) (c .before .before .before .read-full .kept .1 .0) (omega arith) (omega arith)
 
--- src/main.rt:52:30
+slice-aggregate-read-words : tie.Need-slice-aggregate-read-words
+slice-aggregate-read-words c = sym (length-back (c .before .before .before .before .before .before .room .result) {m = 4 * c .before .before .before .before .before .before .before .before .args .count} (omega arith) (c .before .before .before .before .read-full .last .1 .0) (c .before .before .before .before .read-full .kept .1 .0) (omega arith) (omega arith))
+
 slice-aggregate-read-words-2 : tie.Need-slice-aggregate-read-words-2
 slice-aggregate-read-words-2 c = search needs
 
--- src/main.rt:52:5
 read-words-requires : tie.Need-read-words-requires
 read-words-requires c κs = search needs
 
--- src/main.rt:53:15
 array-share-prefix-words : tie.Need-array-share-prefix-words
 array-share-prefix-words c = search needs
 
--- src/main.rt:53:15
 slice-aggregate-make-call : tie.Need-slice-aggregate-make-call
-slice-aggregate-make-call c = ?
+slice-aggregate-make-call c = sym (length-take-le _ (c .before .before .read-words .last .1 .0) (omega (arith, c .before .before .read-words .kept .1 .0)))
 
--- src/main.rt:53:5
 make-call-requires : tie.Need-make-call-requires
-make-call-requires c κs = ?
+make-call-requires c κs = omega (arith, length-take-le (c .before .before .before .before .before .before .before .before .before .before .before .before .args .count) (c .before .before .read-words .last .1 .0) (omega (arith, c .before .before .read-words .kept .1 .0)))
 
--- src/main.rt:41:1
 returns-3 : tie.Need-returns-3
 returns-3 c = search needs
 
@@ -81,6 +68,7 @@ with-table-spec =
     read-full-requires
     returns-2
     space-requires
+    array-share-prefix-bytes
     slice-aggregate-read-words
     slice-aggregate-read-words-2
     read-words-requires
