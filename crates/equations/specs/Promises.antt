@@ -1,5 +1,6 @@
 -- What is proved of the equations of a table, in one place.
 use Prim.Native.Nat.{ℕ}
+use mathlib.Core.Path.{_≡_}
 use mathlib.Core.Logic.{_↔_}
 use Rattle.language.specs.Ty.{Ty, Subst, MoreGeneral}
 use Rattle.language.specs.Environment.{empty}
@@ -17,7 +18,11 @@ use Rattle.equations.specs.Inferred as Inferred
 use Rattle.equations.specs.Inferred.{inferred, RightType}
 
 module _ {nd : Nodes} {n : ℕ} (t : Tree nd n) where
-  -- The formula has a type exactly if the equations of all nodes have a solution.
+  -- The formula has type τ exactly if the equations of all nodes have a solution with τ at the root.
+  typed-exactly-solved : {τ : Ty} → Has empty (expAt nd n 0) τ ↔ ((s : Subst) × Solves s (equationsBelow nd n) × (s (nodeVar 0) ≡ τ))
+  typed-exactly-solved = TypedExactlySolvable.typed-exactly-solved t
+
+  -- So it has a type exactly if they have a solution.
   typed-exactly-solvable : ((τ : Ty) × Has empty (expAt nd n 0) τ) ↔ ((s : Subst) × Solves s (equationsBelow nd n))
   typed-exactly-solvable = TypedExactlySolvable.typed-exactly-solvable t
 

@@ -1,6 +1,6 @@
 -- A table's formula has a type exactly if the table's equations have a solution, and a most general solution gives it its most general type.
 use Prim.Native.Nat.{ℕ}
-use mathlib.Core.Path.{_∙_, ap}
+use mathlib.Core.Path.{_≡_, _∙_, ap}
 use mathlib.Core.Logic.{_↔_}
 use Rattle.language.specs.Ty.{Ty, Subst}
 use Rattle.language.specs.Environment.{empty}
@@ -15,9 +15,13 @@ use Rattle.equations.specs.SolutionsType.{solution-is-typing}
 use Rattle.equations.specs.TypingsSolve.{typing-is-solution}
 
 module _ {nd : Nodes} {n : ℕ} (t : Tree nd n) where
+  -- With type τ at the root.
+  pub typed-exactly-solved : {τ : Ty} → Has empty (expAt nd n 0) τ ↔ ((s : Subst) × Solves s (equationsBelow nd n) × (s (nodeVar 0) ≡ τ))
+  typed-exactly-solved = (typing-is-solution t, λ (s, h, e). rw e at (solution-is-typing t s h))
+
   pub typed-exactly-solvable : ((τ : Ty) × Has empty (expAt nd n 0) τ) ↔ ((s : Subst) × Solves s (equationsBelow nd n))
   typed-exactly-solvable = (
-    λ (τ, d). let (s, h, e) = typing-is-solution t d in (s, h),
+    λ (τ, d). let (s, h, e) = typed-exactly-solved .0 d in (s, h),
     λ (s, h). (s (nodeVar 0), solution-is-typing t s h),
   )
 
