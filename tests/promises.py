@@ -16,7 +16,7 @@ for path, tail in re.findall(r"`(crates/[^`]+)`: ((?:`[^`]+`(?:, )?)+)", page):
     text = open(path, encoding="utf-8").read() if os.path.exists(path) else ""
     for name in re.findall(r"`([^`]+)`", tail):
         names += 1
-        declared = r"(?m)^\s*(?:(?:unfoldable|abbrev|pub|extern \"C\") )*(?:data |record |fn )?%s(?=[ (:])" % re.escape(name)
+        declared = r"(?m)^\s*(?:(?:unfoldable|abbrev|pub|pub\(crate\)|extern \"C\") )*(?:data |record |fn )?%s(?=[ (:])" % re.escape(name)
         if not re.search(declared, text):
             missing.append("%s does not declare %s" % (path, name))
 

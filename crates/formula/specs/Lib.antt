@@ -1,0 +1,22 @@
+-- The program's input and output as bytes.
+-- Definitions.
+pub mod Input
+pub mod Scan
+pub mod Decimal
+pub mod Lines
+pub mod Program
+-- The scan gives the words of the input.
+pub mod TokenLaws
+pub mod ScanIsWordsIn
+-- Printed numbers are read as those numbers.
+pub mod DecimalLaws
+-- The code of the scan.
+pub mod Scanning
+pub mod ScanningLaws
+-- The code of the lines.
+pub mod Putting
+pub mod PrintingLaws
+-- The program.
+pub mod ProgramLaws
+pub mod PrintsOnce
+pub mod Examples

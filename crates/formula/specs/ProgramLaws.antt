@@ -1,0 +1,89 @@
+-- The program's parts together.
+use Prim.Native.Nat.{ℕ}
+use mathlib.Core.Path.{_≡_, refl, sym, _∙_, ap}
+use mathlib.Core.List.{List, [], _∷_, _++_, foldl}
+use native.Mathlib.Omega.{arith}
+use lib.ListN.{length, take, replicate}
+use Rattle.inference.specs.Inference.{After, leaves, Infers, turned, work-short, no-type, out-short, typed}
+use Rattle.inference.specs.declared.Inferred.{Inferred}
+use Rattle.machine.specs.Runs.{RunIs}
+use Rattle.machine.specs.declared.Ran.{Ran}
+use Rattle.formula.specs.Input.{wordsIn}
+use Rattle.formula.specs.Scan.{State, scanByte, scanned, finish}
+use Rattle.formula.specs.ScanIsWordsIn.{scan-is-words-in, scan-in-pieces}
+use Rattle.formula.specs.Scanning.{stateOf, Fed, wordsOf, EndsWith}
+use Rattle.formula.specs.Lines.{spaced, typeLine, runLine, inputText}
+use Rattle.formula.specs.Putting.{Put, PutWithin, TypeFits, put-then}
+use Rattle.formula.specs.Program.{TwoLinesIn, no-words, answered, Responds, Reached}
+use Rattle.formula.specs.declared.scan.Scanner.{Scanner}
+use Rattle.formula.specs.declared.scan.Scanner.the-variants.{Failed, Between}
+use Rattle.formula.specs.declared.scan.Ended.{Ended}
+use Rattle.formula.specs.declared.scan.Ended.the-variants.{Words, Failed as NoWords}
+
+-- ---- Reading
+
+module _ {words : List ℕ} (room : length words ≡ 2048) where
+  pub reached-first : Reached words (Between 0)
+  reached-first = record { input = []; stands = record { fits = record { room = room; counted = omega arith }; is = refl } }
+
+  -- Byte 0 is no digit.
+  pub reached-failed : Reached words Failed
+  unfolding scanByte
+  reached-failed = record { input = 0 ∷ []; stands = record { fits = record { room = room; counted = omega arith }; is = refl } }
+
+pub reached-more : {piece words words′ : List ℕ} {s s′ : Scanner} (reached : Reached words s) → Fed (stateOf words s) piece words′ s′ → Reached words′ s′
+reached-more {piece} reached fed = record {
+  input = reached .input ++ piece;
+  stands = record {
+    fits = fed .stands .fits;
+    is = fed .stands .is ∙ ap (λ state. foldl scanByte state piece) (reached .stands .is) ∙ sym (scan-in-pieces (reached .input) piece);
+  };
+}
+
+-- ---- The two lines
+
+pub type-fits : {words work out work′ out′ : List ℕ} {a : Inferred} → Infers words work out (leaves a work′ out′) → length out ≡ 64 → length out′ ≡ 64 → TypeFits a out′
+type-fits {out′ = out′} i same same′ = go i same
+  where
+    answer-is : {a b : After} → a ≡ b → a .answer ≡ b .answer
+    answer-is e = ap (λ (x : After). x .answer) e
+
+    go : {words work out work′ : List ℕ} {a : Inferred} → Infers words work out (leaves a work′ out′) → length out ≡ 64 → TypeFits a out′
+    go (turned v is) same = rw (answer-is is) tt
+    go (work-short v short is) same = rw (answer-is is) tt
+    go (no-type v enough untyped is) same = rw (answer-is is) tt
+    go (out-short v enough p short is) same = rw (answer-is is) tt
+    go (typed v enough p fits is) same = rw (answer-is is) (omega arith, omega arith)
+
+pub two-lines-put : {words text text₁ text₂ : List ℕ} {at₁ at₂ : ℕ} {after : After} {ran : Ran} {bindings frames : List ℕ} → length text ≡ 1024 →
+    Infers words (replicate 12304 0) (replicate 64 0) after → RunIs words 100000 (replicate 4096 0) (replicate 4096 0) bindings frames ran →
+    PutWithin 731 text 0 (typeLine (after .answer) (after .out)) text₁ at₁ → PutWithin 49 text₁ at₁ (runLine ran) text₂ at₂ → TwoLinesIn words text₂ at₂
+two-lines-put {after = after} {ran} {bindings} {frames} size infers runs type run = record {
+  inside = omega (arith, type .ends, run .ends, type .put .same-length, run .put .same-length);
+  lines = record {
+    after = after;
+    infers = infers;
+    ran = ran;
+    bindings = bindings;
+    frames = frames;
+    runs = runs;
+    is = put-then (type .put) (run .put) .there;
+  };
+}
+
+-- ---- The response
+
+module _ {state : State} {words : List ℕ} {ended : Ended} (ends : EndsWith words ended (finish state)) where
+  -- The words of every input that leads to the state.
+  found : (input : List ℕ) → scanned input ≡ state → wordsIn input ≡ wordsOf words ended
+  found input leads = sym (scan-is-words-in input) ∙ ap finish leads ∙ sym (ends .is)
+
+  pub responds-lines : {count n : ℕ} {text : List ℕ} → ended ≡ Words count → TwoLinesIn (take count words) text n → Responds state text n
+  responds-lines is two = record { inside = two .inside; to = λ input leads. answered (found input leads ∙ ap (wordsOf words) is) (two .lines) }
+
+  pub responds-input : {n : ℕ} {text text′ : List ℕ} → ended ≡ NoWords → length text ≡ 1024 → Put text 0 (inputText ++ 10 ∷ []) text′ n → Responds state text′ n
+  unfolding spaced
+  responds-input is size put = record {
+    inside = omega (arith, put .next-is, put .same-length);
+    to = λ input leads. no-words (found input leads ∙ ap (wordsOf words) is) (put .there);
+  }
