@@ -4,8 +4,10 @@ use mathlib.Core.Path.{_≡_, refl, sym, _∙_, ap}
 use mathlib.Core.List.{List, [], _∷_, _++_, foldl}
 use native.Mathlib.Omega.{arith}
 use lib.ListN.{length, take, replicate}
-use Rattle.inference.specs.Inference.{After, leaves, Infers, turned, work-short, no-type, out-short, typed}
+use Rattle.inference.specs.Inference.{After, leaves, Infers}
+use Rattle.inference.specs.TypeWithin.{type-within}
 use Rattle.inference.specs.declared.Inferred.{Inferred}
+use Rattle.inference.specs.declared.Inferred.the-variants.{Typed, Refused}
 use Rattle.machine.specs.Runs.{RunIs}
 use Rattle.machine.specs.declared.Ran.{Ran}
 use Rattle.formula.specs.Input.{wordsIn}
@@ -43,17 +45,11 @@ reached-more {piece} reached fed = record {
 -- ---- The two lines
 
 pub type-fits : {words work out work′ out′ : List ℕ} {a : Inferred} → Infers words work out (leaves a work′ out′) → length out ≡ 64 → length out′ ≡ 64 → TypeFits a out′
-type-fits {out′ = out′} i same same′ = go i same
+type-fits {words} {work} {out} {work′} {out′} {a} i same same′ = go a i
   where
-    answer-is : {a b : After} → a ≡ b → a .answer ≡ b .answer
-    answer-is e = ap (λ (x : After). x .answer) e
-
-    go : {words work out work′ : List ℕ} {a : Inferred} → Infers words work out (leaves a work′ out′) → length out ≡ 64 → TypeFits a out′
-    go (turned v is) same = rw (answer-is is) tt
-    go (work-short v short is) same = rw (answer-is is) tt
-    go (no-type v enough untyped is) same = rw (answer-is is) tt
-    go (out-short v enough p short is) same = rw (answer-is is) tt
-    go (typed v enough p fits is) same = rw (answer-is is) (omega arith, omega arith)
+    go : (a : Inferred) → Infers words work out (leaves a work′ out′) → TypeFits a out′
+    go (Typed count) i = (omega (arith, type-within i refl), omega arith)
+    go (Refused code place) i = tt
 
 pub two-lines-put : {words text text₁ text₂ : List ℕ} {at₁ at₂ : ℕ} {after : After} {ran : Ran} {bindings frames : List ℕ} → length text ≡ 1024 →
     Infers words (replicate 12304 0) (replicate 64 0) after → RunIs words 100000 (replicate 4096 0) (replicate 4096 0) bindings frames ran →

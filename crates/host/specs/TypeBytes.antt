@@ -10,8 +10,8 @@ use Rattle.lent.specs.Smaller.{smaller-first, smaller-second}
 use Rattle.lent.specs.Bytes.{toBytes, overwrite}
 use Rattle.lent.specs.Overwriting.{overwrite-fits}
 use Rattle.lent.specs.ByteLaws.{length-toBytes}
-use Rattle.language.specs.WrittenForm.{wordsOf}
-use Rattle.inference.specs.Inference.{After, leaves, Infers, turned, work-short, no-type, out-short, typed}
+use Rattle.inference.specs.Inference.{leaves, Infers}
+use Rattle.inference.specs.TypeWithin as Inference
 use Rattle.inference.specs.declared.Inferred.{Inferred}
 use Rattle.inference.specs.declared.Inferred.the-variants.{Typed, Refused}
 use Rattle.host.specs.Entries.{packed, outWords, InfersTo, InfersOn}
@@ -42,39 +42,23 @@ module _ {room : ℕ} (out : List ℕ) (is : room ≡ outWords out) where
 
 -- ---- The bytes
 
-refused-or-typed : {a : After} {code place count : ℕ} {work out : List ℕ} → a ≡ leaves (Refused code place) work out → a .answer ≡ Typed count → ⊥
-refused-or-typed refused accepted =
-    let other = ap (λ x. x .answer) refused in
-    let z : _≡_ {A = ℕ} 0 1 = cc in
-    omega arith
-
-type-fits : {words work typeWords : List ℕ} {a : After} {count : ℕ} → Infers words work typeWords a → a .answer ≡ Typed count → count ≤ length typeWords
-type-fits (turned v is) e = absurd (refused-or-typed is e)
-type-fits (work-short v short is) e = absurd (refused-or-typed is e)
-type-fits (no-type v enough untyped is) e = absurd (refused-or-typed is e)
-type-fits (out-short v enough p short is) e = absurd (refused-or-typed is e)
-type-fits {count = count} (typed {τ = τ} v enough p fits is) e =
-    let answer = ap (λ x. x .answer) is in
-    let same : count ≡ length (wordsOf τ) = cc in
-    rw same fits
-
 module _ {words work typeWords work′ typeWords′ : List ℕ} {a : Inferred} (i : Infers words work typeWords (leaves a work′ typeWords′)) where
   module _ {count : ℕ} (e : a ≡ Typed count) (kept : length typeWords′ ≡ length typeWords) where
     pub type-within : count ≤ length typeWords′
-    type-within = rw kept (type-fits i e)
+    type-within = rw kept (Inference.type-within i e)
 
     pub type-lent : length (take count typeWords′) ≡ count
     type-lent = length-take-le count typeWords′ type-within
 
     module _ {out : List ℕ} (room : OutRoom typeWords out) where
       pub count-small : count ≤ 1024
-      count-small = omega (arith, type-fits i e, room .few)
+      count-small = omega (arith, Inference.type-within i e, room .few)
 
       length-type : length (toBytes (take count typeWords′)) ≡ 4 * count
       length-type = length-toBytes (take count typeWords′) ∙ ap (λ n. 4 * n) type-lent
 
       type-written : overwrite (toBytes (take count typeWords′)) out ≡ toBytes (take count typeWords′) ++ drop (4 * count) out
-      type-written = rw length-type at (overwrite-fits (toBytes (take count typeWords′)) out (rw length-type (omega (arith, type-fits i e, room .within))))
+      type-written = rw length-type at (overwrite-fits (toBytes (take count typeWords′)) out (rw length-type (omega (arith, Inference.type-within i e, room .within))))
 
       pub infers-typed : {out′ : List ℕ} {r : ℕ} → r ≡ packed 0 count → out′ ≡ overwrite (toBytes (take count typeWords′)) out → InfersTo words work typeWords out out′ r
       infers-typed number written = record { after = leaves a work′ typeWords′; infers = i; number = rw e number; out-after = rw e (written ∙ type-written) }

@@ -32,4 +32,5 @@ pub mod Principality
 pub mod InferCall
 pub mod Textbook
 pub mod InferenceOnce
+pub mod TypeWithin
 pub mod Examples

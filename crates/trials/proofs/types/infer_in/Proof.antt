@@ -1,30 +1,9 @@
 -- `trials::types::infer_in` is safe: what it shows of `out` is there.
-use Prim.Native.Nat.{ℕ, _≤_}
-use mathlib.Core.Path.{_≡_, subst}
-use mathlib.Core.List.{List}
 use native.Mathlib.Omega.{arith}
-use lib.ListN.{length}
-use Rattle.inference.specs.Inference.{After, leaves, Infers, turned, work-short, no-type, out-short, typed}
-use Rattle.inference.specs.declared.Inferred.{Inferred}
-use Rattle.inference.specs.declared.Inferred.the-variants.{Typed, Refused}
+use Rattle.inference.specs.TypeWithin.{type-within}
 use borrow.Author.Needs.{needs}
 use Rattle.trials.proofs.types.infer_in.Statement.{statement}
 use Rattle.trials.proofs.types.infer_in.Tie as tie
-
--- A type that is answered is no longer than `out`.
-abbrev Within : List ℕ → Inferred → Type 0
-Within out (Typed count) = count ≤ length out
-Within out (Refused code place) = Unit {0}
-
-within : {words work out : List ℕ} {a : After} → Infers words work out a → Within out (a .answer)
-within (turned v is) = rw is tt
-within (work-short v short is) = rw is tt
-within (no-type v enough untyped is) = rw is tt
-within (out-short v enough p short is) = rw is tt
-within (typed v enough p fits is) = rw is fits
-
-type-fits : {words work out work′ out′ : List ℕ} {answer : Inferred} {count : ℕ} → Infers words work out (leaves answer work′ out′) → answer ≡ Typed count → count ≤ length out
-type-fits {out = out} i e = subst (Within out) e (within i)
 
 fill-requires : tie.Need-fill-requires
 fill-requires c κs = search needs
@@ -42,7 +21,7 @@ enum-known-count : tie.Need-enum-known-count
 enum-known-count c = search needs
 
 show-type-requires : tie.Need-show-type-requires
-show-type-requires c κs = (omega (arith, type-fits (c .before .before .before .before .before .before .before .before .before .infer .ensures) (c .before .before .before .count .given .1)), omega arith)
+show-type-requires c κs = (omega (arith, type-within (c .before .before .before .before .before .before .before .before .before .infer .ensures) (c .before .before .before .count .given .1)), omega arith)
 
 enum-known-code : tie.Need-enum-known-code
 enum-known-code c = search needs
