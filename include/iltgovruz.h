@@ -2,6 +2,21 @@
 
    A formula is a table of bytes: 16 for each node, four little-endian words kind, a, b, c; 1 to 512 nodes, node 0 is the root.
 
+       kind             a, b, c
+       0  unit          0, 0, 0
+       1  boolean       0 false or 1 true, 0, 0
+       2  integer       its pattern of 32 bits, two's complement, 0, 0
+       3  operator      0 to 9 for + - * / mod < > <= >= =, 0, 0
+       4  name          the name, 0, 0
+       5  application   left, right, 0
+       6  if            condition, then, else
+       7  lambda        name, body, 0
+       8  let           name, bound expression, body
+       9  rec           name, body, 0
+
+   Names are 0 to 65,535. A child is given by its node's number, which is greater than its parent's; every node but 0 is a child exactly
+   once. A name is bound by the nearest enclosing lambda, let or rec of that name, a let's in its body only.
+
    Each call answers one number: the code in its low 8 bits, the place or payload in its high 32, zero between. iltgovruz_code and
    iltgovruz_payload take it apart.
 

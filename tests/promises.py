@@ -1,5 +1,5 @@
 #!/usr/bin/env python3
-"""Holds docs/PROMISES.md to the files: each name that follows a file in a row is declared in that file, and each edit is there.
+"""Holds docs/PROMISES.md to the files: each file is there, each name that follows a file is declared in it, and each edit is there.
 
 A citation is `path`: `name`, `name`, ..; a `word_like_this` in a last column is an edit of some crate's must-fail/."""
 import glob
@@ -12,8 +12,11 @@ page = open("docs/PROMISES.md", encoding="utf-8").read()
 edits = {os.path.basename(path)[:-len(".edit")] for path in glob.glob("crates/*/must-fail/*.edit")}
 missing, names, cited = [], 0, set()
 
+missing += ["no file %s" % path for path in re.findall(r"`(crates/[^`]+)`", page) if not os.path.exists(path)]
 for path, tail in re.findall(r"`(crates/[^`]+)`: ((?:`[^`]+`(?:, )?)+)", page):
-    text = open(path, encoding="utf-8").read() if os.path.exists(path) else ""
+    if not os.path.exists(path):
+        continue
+    text = open(path, encoding="utf-8").read()
     for name in re.findall(r"`([^`]+)`", tail):
         names += 1
         declared = r"(?m)^\s*(?:(?:unfoldable|abbrev|pub|pub\(crate\)|extern \"C\") )*(?:data |record |fn )?%s(?=[ (:])" % re.escape(name)

@@ -1,8 +1,4 @@
-#!/usr/bin/env python3
-"""Trials for the program crates/trials: their form, and the lines that it answers.
-
-usage: trials.py PROGRAM WORD ..      (shows the check, the inference and the run of a table)
-"""
+"""Trials for the program crates/trials: their form, and the lines that it answers; and how a compiled program is run."""
 import os
 import platform
 import struct
@@ -34,15 +30,3 @@ def lines(program, trials):
     if len(answers) != len(trials):
         sys.exit("%d trials, %d lines" % (len(trials), len(answers)))
     return answers
-
-
-def main():
-    program, words = sys.argv[1], [int(word) for word in sys.argv[2:]]
-    calls = [("check", CHECK, (0, 0, 0)), ("type", INFER, (12304, 64, 0)), ("run", RUN, (100000, 4096, 4096))]
-    answers = lines(program, [trial(call, numbers, words) for _, call, numbers in calls])
-    for (title, _, _), answer in zip(calls, answers):
-        print(title, answer)
-
-
-if __name__ == "__main__":
-    main()
