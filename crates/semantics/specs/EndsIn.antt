@@ -1,7 +1,7 @@
 -- Runs without limits: from a state the machine comes to an end, after so many steps and bindings.
-use Prim.Native.Nat.{ℕ, suc, _+_, _≤_}
+use Prim.Native.Nat.{ℕ, suc, _+_}
 use mathlib.Core.Path.{_≡_}
-use Rattle.semantics.specs.Limits.{Need, nothing, a-binding, a-frame, Next, at-end, last-step, steps-to, Room}
+use Rattle.semantics.specs.Limits.{Need, nothing, a-binding, a-frame, Next, at-end, last-step, steps-to}
 
 abbrev pub bindingsFor : Need → ℕ
 bindingsFor nothing = 0
@@ -12,9 +12,3 @@ pub data EndsIn {S E : Type 0} (next : S → Next S E) : S → E → ℕ → ℕ
   here : {s : S} {e : E} → next s ≡ at-end e → EndsIn next s e 0 0
   by-last-step : {s : S} {e : E} → next s ≡ last-step e → EndsIn next s e 1 0
   later : {s s′ : S} {e : E} {need : Need} {n m : ℕ} → next s ≡ steps-to need s′ → EndsIn next s′ e n m → EndsIn next s e (suc n) (bindingsFor need + m)
-
--- The second has at least the fuel and the capacities of the first.
-pub record AtLeast (small large : Room) : Type 0 where
-  pub fuel : small .fuel ≤ large .fuel
-  pub bindings : small .bindings ≤ large .bindings
-  pub frames : small .frames ≤ large .frames

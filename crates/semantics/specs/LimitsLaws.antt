@@ -8,8 +8,8 @@ use native.Mathlib.Nat.{zero-add}
 use native.Mathlib.Omega.{arith}
 use borrow.Author.Tests.{lt-ltb}
 use lib.Dec.{ltb}
-use Rattle.semantics.specs.Limits.{Need, nothing, a-binding, a-frame, Next, at-end, last-step, steps-to, Limit, fuel-limit, binding-limit, frame-limit, How, ended, ran-out, Ran, Room, ran, ifFree, withoutFuel, withFuel, runFrom, run}
-use Rattle.semantics.specs.EndsIn.{bindingsFor, EndsIn, here, by-last-step, later, AtLeast}
+use Rattle.semantics.specs.Limits.{Need, nothing, a-binding, a-frame, Next, at-end, last-step, steps-to, Limit, fuel-limit, binding-limit, frame-limit, How, ended, ran-out, Ran, Room, ran, ifFree, withoutFuel, withFuel, runFrom, run, AtLeast}
+use Rattle.semantics.specs.EndsIn.{bindingsFor, EndsIn, here, by-last-step, later}
 
 with-counts : {E : Type 0} {r : Ran E} {h : How E} {n n′ m m′ : ℕ} → r ≡ ran h n m → (n ≡ n′) × (m ≡ m′) → r ≡ ran h n′ m′
 with-counts p q = cc

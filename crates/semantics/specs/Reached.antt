@@ -4,8 +4,7 @@ use mathlib.Core.Path.{_≡_}
 use mathlib.Core.Logic.{_⊎_}
 use mathlib.Core.List.{List}
 use Rattle.language.specs.Expression.{Constant, Exp, constant, name, app, if-then-else, lambda, let-in, rec, unit-element, boolean, integer, operator}
-use Rattle.semantics.specs.Limits.{Limit, Room}
-use Rattle.semantics.specs.EndsIn.{AtLeast}
+use Rattle.semantics.specs.Limits.{Limit, Room, AtLeast}
 use Rattle.semantics.specs.Answer.{Answer, integer-answer, boolean-answer, unit-answer, function-answer, limit-answer, runTable}
 
 -- A run names what ran out: 17, 18 or 19.
