@@ -13,7 +13,7 @@ use Rattle.machine.specs.declared.Ran.{Ran}
 use Rattle.formula.specs.Input.{wordsIn}
 use Rattle.formula.specs.Scan.{State, scanByte, scanned, finish}
 use Rattle.formula.specs.ScanIsWordsIn.{scan-is-words-in, scan-in-pieces}
-use Rattle.formula.specs.Scanning.{stateOf, Fed, wordsOf, EndsWith}
+use Rattle.formula.specs.Scanning.{stateOf, Fed, scannedWords, EndsWith}
 use Rattle.formula.specs.Lines.{spaced, typeLine, runLine, inputText}
 use Rattle.formula.specs.Putting.{Put, PutWithin, TypeFits, put-then}
 use Rattle.formula.specs.Program.{TwoLinesIn, no-words, answered, Responds, Reached}
@@ -71,15 +71,15 @@ two-lines-put {after = after} {ran} {bindings} {frames} size infers runs type ru
 
 module _ {state : State} {words : List ℕ} {ended : Ended} (ends : EndsWith words ended (finish state)) where
   -- The words of every input that leads to the state.
-  found : (input : List ℕ) → scanned input ≡ state → wordsIn input ≡ wordsOf words ended
+  found : (input : List ℕ) → scanned input ≡ state → wordsIn input ≡ scannedWords words ended
   found input leads = sym (scan-is-words-in input) ∙ ap finish leads ∙ sym (ends .is)
 
   pub responds-lines : {count n : ℕ} {text : List ℕ} → ended ≡ Words count → TwoLinesIn (take count words) text n → Responds state text n
-  responds-lines is two = record { inside = two .inside; to = λ input leads. answered (found input leads ∙ ap (wordsOf words) is) (two .lines) }
+  responds-lines is two = record { inside = two .inside; to = λ input leads. answered (found input leads ∙ ap (scannedWords words) is) (two .lines) }
 
   pub responds-input : {n : ℕ} {text text′ : List ℕ} → ended ≡ NoWords → length text ≡ 1024 → Put text 0 (inputText ++ 10 ∷ []) text′ n → Responds state text′ n
   unfolding spaced
   responds-input is size put = record {
     inside = omega (arith, put .next-is, put .same-length);
-    to = λ input leads. no-words (found input leads ∙ ap (wordsOf words) is) (put .there);
+    to = λ input leads. no-words (found input leads ∙ ap (scannedWords words) is) (put .there);
   }

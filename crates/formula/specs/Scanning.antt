@@ -18,15 +18,15 @@ stateOf words Failed = failed
 stateOf words (Between count) = reading (take count words) none
 stateOf words (Inside count value) = reading (take count words) (some value)
 
-abbrev pub countOf : Scanner → ℕ
-countOf Failed = 0
-countOf (Between count) = count
-countOf (Inside count value) = count
+abbrev pub scannedCount : Scanner → ℕ
+scannedCount Failed = 0
+scannedCount (Between count) = count
+scannedCount (Inside count value) = count
 
 -- The slice has 2,048 words, and no more are counted.
 pub record Fits (words : List ℕ) (s : Scanner) : Type 0 where
   pub room : length words ≡ 2048
-  pub counted : countOf s ≤ 2048
+  pub counted : scannedCount s ≤ 2048
 
 -- The scanner stands for that state.
 pub record Stands (words : List ℕ) (s : Scanner) (state : State) : Type 0 where
@@ -37,9 +37,9 @@ pub record Stands (words : List ℕ) (s : Scanner) (state : State) : Type 0 wher
 pub record Fed (start : State) (piece words : List ℕ) (s : Scanner) : Type 0 where
   pub stands : Stands words s (foldl scanByte start piece)
 
-abbrev pub wordsOf : List ℕ → Ended → Option (List ℕ)
-wordsOf words (Words count) = some (take count words)
-wordsOf words NoWords = none
+abbrev pub scannedWords : List ℕ → Ended → Option (List ℕ)
+scannedWords words (Words count) = some (take count words)
+scannedWords words NoWords = none
 
 abbrev pub wordCount : Ended → ℕ
 wordCount (Words count) = count
@@ -48,7 +48,7 @@ wordCount NoWords = 0
 -- Those are the words of the input.
 pub record EndsWith (words : List ℕ) (ended : Ended) (found : Option (List ℕ)) : Type 0 where
   pub inside : wordCount ended ≤ length words
-  pub is : wordsOf words ended ≡ found
+  pub is : scannedWords words ended ≡ found
 
 -- One more byte of a token.
 abbrev pub digitRead : ℕ → ℕ → ℕ → Scanner

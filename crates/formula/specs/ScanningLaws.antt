@@ -12,7 +12,7 @@ use lib.Seq.{length-take-le, take-suc-set, drop-cons}
 use borrow.Author.Tests.{lt-ltb, le-ltb}
 use Rattle.formula.specs.Input.{isSpace, isDigit, withDigit, wordLimit}
 use Rattle.formula.specs.Scan.{State, failed, reading, valueSoFar, withWord, scanByte, wordsRead, finish}
-use Rattle.formula.specs.Scanning.{stateOf, countOf, Fits, Stands, Fed, wordsOf, wordCount, EndsWith, digitRead}
+use Rattle.formula.specs.Scanning.{stateOf, scannedCount, Fits, Stands, Fed, scannedWords, wordCount, EndsWith, digitRead}
 use Rattle.formula.specs.declared.scan.Scanner.{Scanner}
 use Rattle.formula.specs.declared.scan.Scanner.the-variants.{Failed, Between, Inside}
 use Rattle.formula.specs.declared.scan.Ended.{Ended}
@@ -80,8 +80,8 @@ fed-all {piece} fed all = record { stands = record { fits = fed .fits; is = rw (
 -- ---- The end
 
 module _ {words : List ℕ} {s : Scanner} (state : State) (stands : Stands words s (scanByte state 32)) where
-  pub ended-so : {last : Scanner} {ended : Ended} → s ≡ last → wordCount ended ≡ countOf last → wordsOf words ended ≡ wordsRead (stateOf words last) → EndsWith words ended (finish state)
+  pub ended-so : {last : Scanner} {ended : Ended} → s ≡ last → wordCount ended ≡ scannedCount last → scannedWords words ended ≡ wordsRead (stateOf words last) → EndsWith words ended (finish state)
   ended-so e count read = record {
-    inside = omega (arith, count, ap countOf e, stands .fits .room, stands .fits .counted);
+    inside = omega (arith, count, ap scannedCount e, stands .fits .room, stands .fits .counted);
     is = read ∙ ap (λ s. wordsRead (stateOf words s)) (sym e) ∙ ap wordsRead (stands .is);
   }

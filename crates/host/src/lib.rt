@@ -1,9 +1,6 @@
 // The two entries for a host in C: tables and types as bytes, words little-endian, and one number of 64 bits for each answer.
 use inference::Inferred;
-use machine::Answer;
 ghost use mathlib.Core.Path.{_≡_};
-ghost use Rattle.machine.specs.Answers.{codeOf, payloadOf};
-ghost use Rattle.machine.specs.declared.Answer.the-variants.{Boolean};
 ghost use Rattle.host.specs.Entries.{packed, InfersTo, InfersOn, InferEntry, RunsTo, RunEntry};
 ghost use Rattle.host.specs.Rooms.{wrongLength, OutRoom};
 
@@ -67,30 +64,6 @@ pub extern "C" fn iltgovruz_infer(table: &[u8], out: &mut [u8]) -> u64
 
 // ---- The run entry
 
-fn bit(b: bool) -> u32
-    ensures { λ r. ⌜ r ≡ payloadOf (Boolean b) ⌝ }
-{
-    if b { 1 } else { 0 }
-}
-
-fn pack_answer(a: Answer) -> u64
-    ensures { λ r. ⌜ r ≡ packed (codeOf a) (payloadOf a) ⌝ }
-{
-    match a {
-        Answer::Integer(p) => pack(10, p),
-        Answer::Boolean(b) => pack(11, bit(b)),
-        Answer::Unit => pack(12, 0),
-        Answer::Function => pack(13, 0),
-        Answer::DivisionByZero => pack(14, 0),
-        Answer::Overflow => pack(15, 0),
-        Answer::Stuck(k) => pack(16, k),
-        Answer::NoFuel => pack(17, 0),
-        Answer::NoBindings => pack(18, 0),
-        Answer::NoFrames => pack(19, 0),
-        Answer::Refused { code, place } => pack(code, place),
-    }
-}
-
 // The run of a table's words on stores of its own, of 512 cells each.
 fn run_words(words: &[u32], fuel: u32) -> u64
     ensures { λ r. ⌜ RunsTo (now (words .entry)) fuel r ⌝ }
@@ -99,7 +72,7 @@ fn run_words(words: &[u32], fuel: u32) -> u64
     let mut frames = [0u32; 4096];
     let ran = machine::run(words, fuel, &mut bindings, &mut frames);
     let answer = ran.answer;
-    pack_answer(answer)
+    pack(machine::code(answer), machine::payload(answer))
 }
 
 // The run of a table: its code with its payload.

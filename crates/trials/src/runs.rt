@@ -3,26 +3,6 @@ use crate::lines;
 use crate::stores;
 use machine::Answer;
 
-fn bit(b: bool) -> u32 {
-    if b { 1 } else { 0 }
-}
-
-fn begin(a: Answer) {
-    match a {
-        Answer::Integer(p) => lines::begin(10, p),
-        Answer::Boolean(b) => lines::begin(11, bit(b)),
-        Answer::Unit => lines::begin(12, 0),
-        Answer::Function => lines::begin(13, 0),
-        Answer::DivisionByZero => lines::begin(14, 0),
-        Answer::Overflow => lines::begin(15, 0),
-        Answer::Stuck(k) => lines::begin(16, k),
-        Answer::NoFuel => lines::begin(17, 0),
-        Answer::NoBindings => lines::begin(18, 0),
-        Answer::NoFrames => lines::begin(19, 0),
-        Answer::Refused { code, place } => lines::begin(code, place),
-    }
-}
-
 fn is_refusal(a: Answer) -> bool {
     if let Answer::Refused { code: _, place: _ } = a {
         true
@@ -48,7 +28,7 @@ fn run_in(words: &[u32], fuel: u32, bindings: &mut [u32], frames: &mut [u32]) {
     stores::fill(frames);
     let ran = machine::run(words, fuel, bindings, frames);
     let answer = ran.answer;
-    begin(answer);
+    lines::begin(machine::code(answer), machine::payload(answer));
     lines::more(ran.steps);
     lines::more(ran.bindings);
     let refused = is_refusal(answer);
