@@ -17,6 +17,7 @@ pub mod ScanningLaws
 pub mod Putting
 pub mod PrintingLaws
 -- The program.
+pub mod Responding
 pub mod ProgramLaws
 pub mod PrintsOnce
 pub mod Examples

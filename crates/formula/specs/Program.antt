@@ -1,17 +1,14 @@
 -- What the program prints for an input.
-use Prim.Native.Nat.{ℕ, _≤_}
+use Prim.Native.Nat.{ℕ}
 use mathlib.Core.Path.{_≡_}
 use mathlib.Core.List.{List, _++_}
 use mathlib.Core.Option.{none, some}
-use lib.ListN.{length, replicate, take}
+use lib.ListN.{replicate}
 use Rattle.inference.specs.Inference.{After, Infers}
 use Rattle.machine.specs.Runs.{RunIs}
 use Rattle.machine.specs.declared.Ran.{Ran}
 use Rattle.formula.specs.Input.{wordsIn}
-use Rattle.formula.specs.Scan.{State, scanned}
-use Rattle.formula.specs.Scanning.{Stands}
 use Rattle.formula.specs.Lines.{typeLine, runLine, inputLine}
-use Rattle.formula.specs.declared.scan.Scanner.{Scanner}
 
 -- The answers to a table, as two lines: work slice 12,304 words, out slice 64 words, fuel 100000, capacities 512 each, at eight words a cell.
 pub record TwoLines (words text : List ℕ) : Type 0 where
@@ -27,20 +24,3 @@ pub record TwoLines (words text : List ℕ) : Type 0 where
 pub data Prints (input text : List ℕ) : Type 0 where
   no-words : wordsIn input ≡ none → text ≡ inputLine → Prints input text
   answered : {words : List ℕ} → wordsIn input ≡ some words → TwoLines words text → Prints input text
-
--- ---- What the code keeps to
-
--- The first n bytes of the text are a table's two lines.
-pub record TwoLinesIn (words text : List ℕ) (n : ℕ) : Type 0 where
-  pub inside : n ≤ length text
-  pub lines : TwoLines words (take n text)
-
--- That is printed for every input that leads to the state.
-pub record Responds (state : State) (text : List ℕ) (n : ℕ) : Type 0 where
-  pub inside : n ≤ length text
-  pub to : (input : List ℕ) → scanned input ≡ state → Prints input (take n text)
-
--- The scanner stands where some input leads to. Which one, no contract can say: that of `read` is silent on the bytes that came.
-pub record Reached (words : List ℕ) (s : Scanner) : Type 0 where
-  pub input : List ℕ
-  pub stands : Stands words s (scanned input)

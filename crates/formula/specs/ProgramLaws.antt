@@ -16,7 +16,8 @@ use Rattle.formula.specs.ScanIsWordsIn.{scan-is-words-in, scan-in-pieces
 use Rattle.formula.specs.Scanning.{stateOf, Fed, scannedWords, EndsWith}
 use Rattle.formula.specs.Lines.{spaced, typeLine, runLine, inputText}
 use Rattle.formula.specs.Putting.{Put, PutWithin, TypeFits, put-then}
-use Rattle.formula.specs.Program.{TwoLinesIn, no-words, answered, Responds, Reached}
+use Rattle.formula.specs.Program.{no-words, answered}
+use Rattle.formula.specs.Responding.{TwoLinesIn, Responds, Reached}
 use Rattle.formula.specs.declared.scan.Scanner.{Scanner}
 use Rattle.formula.specs.declared.scan.Scanner.the-variants.{Failed, Between}
 use Rattle.formula.specs.declared.scan.Ended.{Ended}

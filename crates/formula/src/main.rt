@@ -8,7 +8,7 @@ use libc::STDOUT_FILENO;
 use scan::Scanner;
 ghost use mathlib.Core.Path.{_≡_};
 ghost use lib.ListN.{length};
-ghost use Rattle.formula.specs.Program.{Reached};
+ghost use Rattle.formula.specs.Responding.{Reached};
 
 // Where the scan stands after one read, and whether the input goes on.
 struct Turn {

@@ -6,7 +6,7 @@ use scan::Scanner;
 ghost use mathlib.Core.Path.{_≡_};
 ghost use lib.ListN.{length, replicate};
 ghost use Rattle.formula.specs.Scanning.{stateOf, Fits};
-ghost use Rattle.formula.specs.Program.{TwoLinesIn, Responds};
+ghost use Rattle.formula.specs.Responding.{TwoLinesIn, Responds};
 
 fn work() -> [u32; 12304]
     ensures { λ r. ⌜ r ≡ replicate 12304 0 ⌝ }

@@ -11,8 +11,6 @@ use Rattle.language.specs.WrittenForm.{wordsOf}
 use Rattle.table.specs.Refusals.{checkOf}
 use Rattle.table.specs.ExpressionOf.{expOf}
 use Rattle.table.specs.declared.Verdict.the-variants.{Nodes as Accepted, Refused as Turned}
-use Rattle.equations.specs.Cells.{Ev}
-use Rattle.inference.specs.Layout.{pairAt, storeOf, cellsIn, Sound}
 use Rattle.inference.specs.declared.Inferred.{Inferred}
 use Rattle.inference.specs.declared.Inferred.the-variants.{Typed, Refused}
 
@@ -65,20 +63,3 @@ pub data Infers (words work out : List ℕ) (a : After) : Type 0 where
   -- 0: the most general type, written.
   typed : {n : ℕ} {τ : Ty} → checkOf words ≡ Accepted n → workFor n ≤ length work → Principal empty (expOf words) τ →
       length (wordsOf τ) ≤ length out → a ≡ leaves (Typed (length (wordsOf τ))) (cleared n work) (withType (wordsOf τ) out) → Infers words work out a
-
--- The answer to a table of n nodes, whatever work slice of enough words is lent.
-pub record InfersWithWork (words : List ℕ) (n : ℕ) (out : List ℕ) (answer : Inferred) (out′ : List ℕ) : Type 0 where
-  pub given : (work : List ℕ) → workFor n ≤ length work → Infers words work out (leaves answer (cleared n work) out′)
-
--- ---- The root's cell
-
--- It evaluates, and no variable has a number yet.
-pub record RootReady (cells : List ℕ) : Type 0 where
-  pub sound : Sound cells
-  pub inside : 4 < cellsIn cells
-  pub no-numbers : (i : ℕ) → pairAt cells i .right ≡ 0
-  pub evaluates : (τ : Ty) × Ev (storeOf cells) 4 τ
-
--- The answer to a table whose most general type it evaluates to.
-pub record RootAnswered (cells out : List ℕ) (answer : Inferred) (out′ : List ℕ) : Type 0 where
-  pub to : {words : List ℕ} {n : ℕ} {τ : Ty} → checkOf words ≡ Accepted n → Principal empty (expOf words) τ → Ev (storeOf cells) 4 τ → InfersWithWork words n out answer out′

@@ -8,6 +8,7 @@ pub mod TableCells
 pub mod Grounding
 pub mod Writing
 pub mod Inference
+pub mod Answering
 -- The words of cells.
 pub mod LayoutLaws
 pub mod StoreLaws

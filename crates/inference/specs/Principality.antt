@@ -27,7 +27,8 @@ use Rattle.inference.specs.Grounding.{GroundTested}
 use Rattle.inference.specs.Writing.{CellWritten, TypeWritten}
 use Rattle.inference.specs.TableCells.{unknowns, Constants, TableSolved, TableReady, TableRoom}
 use Rattle.inference.specs.TableLaws.{all-satisfied}
-use Rattle.inference.specs.Inference.{leaves, cleared, no-type, out-short, typed, InfersWithWork, RootReady, RootAnswered}
+use Rattle.inference.specs.Inference.{leaves, cleared, no-type, out-short, typed}
+use Rattle.inference.specs.Answering.{InfersWithWork, RootReady, RootAnswered}
 use Rattle.inference.specs.declared.Inferred.{Inferred}
 use Rattle.inference.specs.declared.Inferred.the-variants.{Typed, Refused}
 use Rattle.inference.specs.declared.write.Room.{Room}

@@ -12,7 +12,8 @@ ghost use lib.ListN.{length};
 ghost use Rattle.table.specs.Refusals.{countOf, checkOf};
 ghost use Rattle.table.specs.declared.Verdict.the-variants.{Nodes as Accepted};
 ghost use Rattle.inference.specs.TableCells.{TableReady, TableRoom};
-ghost use Rattle.inference.specs.Inference.{leaves, Infers, InfersWithWork, RootReady, RootAnswered};
+ghost use Rattle.inference.specs.Inference.{leaves, Infers};
+ghost use Rattle.inference.specs.Answering.{InfersWithWork, RootReady, RootAnswered};
 
 // What inference of a table answers.
 pub enum Inferred {

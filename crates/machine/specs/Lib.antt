@@ -5,6 +5,7 @@ pub mod Answers
 pub mod Decode
 pub mod Steps
 pub mod Runs
+pub mod Executing
 -- What the words stand for, and what a move changes.
 pub mod StoreLaws
 pub mod DecodeLaws
@@ -18,3 +19,4 @@ pub mod ReturnLaws
 pub mod RunLaws
 pub mod Clearing
 pub mod RunCall
+pub mod SameNumbers

@@ -1,7 +1,7 @@
 -- `formula::read_input` meets its contract. The loop's invariant: the scan stands where some input leads to.
 use mathlib.Core.Path.{sym, _∙_}
 use native.Mathlib.Omega.{arith}
-use Rattle.formula.specs.Program.{Reached}
+use Rattle.formula.specs.Responding.{Reached}
 use Rattle.formula.specs.ProgramLaws.{reached-first}
 use Rattle.formula.proofs.read_input.Statement.{statement}
 use Rattle.formula.proofs.read_input.Tie as tie
