@@ -12,8 +12,7 @@ use Rattle.table.specs.Accepted.{accepted-is-checked, count-is}
 use Rattle.table.specs.declared.Verdict.{Verdict}
 use Rattle.table.specs.declared.Verdict.the-variants.{Nodes as Accepted, Refused as Turned}
 use Rattle.inference.specs.TableCells.{TableRoom}
-use Rattle.inference.specs.Inference.{workFor, leaves, Infers, turned}
-use Rattle.inference.specs.Answering.{InfersWithWork}
+use Rattle.inference.specs.Inference.{workFor, leaves, Infers, turned, InfersWithWork}
 use Rattle.inference.specs.declared.Inferred.{Inferred}
 use Rattle.inference.specs.declared.Inferred.the-variants.{Refused}
 

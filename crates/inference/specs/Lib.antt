@@ -6,9 +6,8 @@ pub mod Count
 pub mod Solving
 pub mod TableCells
 pub mod Grounding
-pub mod Writing
 pub mod Inference
-pub mod Answering
+pub mod Writing
 -- The words of cells.
 pub mod LayoutLaws
 pub mod StoreLaws

@@ -1,5 +1,5 @@
 -- The cells of a solved table give its most general type, or it has none.
-use Prim.Native.Nat.{ℕ, zero, suc, _+_, _-_, _*_, _≤_}
+use Prim.Native.Nat.{ℕ, zero, suc, _+_, _-_, _*_, _≤_, _<_}
 use mathlib.Core.Path.{_≡_, refl, sym, _∙_, ap, fun-ext}
 use mathlib.Core.Bool.{true, false}
 use mathlib.Core.List.{List, [], _∷_}
@@ -16,23 +16,20 @@ use Rattle.table.specs.Refusals.{checkOf}
 use Rattle.table.specs.ExpressionOf.{expOf}
 use Rattle.table.specs.Accepted.{count-is}
 use Rattle.table.specs.declared.Verdict.the-variants.{Nodes as Accepted}
-use Rattle.equations.specs.Cells.{Sat, Ev, Grounds}
+use Rattle.equations.specs.Cells.{Sat, Grounds}
 use Rattle.equations.specs.Grounded.{grounded-satisfies, grounded-then-any}
 use Rattle.equations.specs.Equations.{equationsBelow}
 use Rattle.equations.specs.TypedExactlySolvable.{typed-exactly-solvable, most-general-is-principal}
-use Rattle.inference.specs.Layout.{cellAt, storeOf}
+use Rattle.inference.specs.Layout.{cellAt, pairAt, cellsIn, storeOf, Sound}
 use Rattle.inference.specs.StoreLaws.{same-store, sound-same}
 use Rattle.inference.specs.Solving.{Outcome}
 use Rattle.inference.specs.Grounding.{GroundTested}
-use Rattle.inference.specs.Writing.{CellWritten, TypeWritten}
+use Rattle.inference.specs.Writing.{TypeWritten, fits, over, CellWritten}
 use Rattle.inference.specs.TableCells.{unknowns, Constants, TableSolved, TableReady, TableRoom}
 use Rattle.inference.specs.TableLaws.{all-satisfied}
-use Rattle.inference.specs.Inference.{leaves, cleared, no-type, out-short, typed}
-use Rattle.inference.specs.Answering.{InfersWithWork, RootReady, RootAnswered}
+use Rattle.inference.specs.Inference.{no-type, out-short, typed, InfersWithWork}
 use Rattle.inference.specs.declared.Inferred.{Inferred}
-use Rattle.inference.specs.declared.Inferred.the-variants.{Typed, Refused}
-use Rattle.inference.specs.declared.write.Room.{Room}
-use Rattle.inference.specs.declared.write.Room.the-variants.{Left, Over}
+use Rattle.inference.specs.declared.Inferred.the-variants.{Refused}
 
 -- ---- Unknowns and cells
 
@@ -83,47 +80,26 @@ module _ {words : List ℕ} {n : ℕ} {free : List ℕ} (t : TableReady words n 
           most-general = λ s h. record { after = withConstants s; is = ap unknowns (grounded-then-any g (satisfies s h)) ∙ unknowns-back s };
         }
 
-    -- Where every cell evaluates, the root's is ready to be written.
+    -- Where every cell evaluates, the root's is ready to be written, and what is written is the answer.
     module _ {tested : List ℕ} (gt : GroundTested mem tested true) where
-      cell-evaluates : (i : ℕ) → Ev (storeOf tested) i (gt .says .0 i)
-      cell-evaluates i = rw (same-store (gt .same)) (gt .says .1 .at i)
-
-      pub root-ready : RootReady tested
+      pub root-ready : Sound tested × (4 < cellsIn tested) × ((i : ℕ) → pairAt tested i .right ≡ 0)
       root-ready =
           let some = t .tree .root in
           let whole : length tested ≡ 5 * (2 * n + 4) = gt .same .same-length ∙ o .same-length ∙ t .whole in
-          record { sound = sound-same (o .says .sound) (gt .same); inside = omega arith; no-numbers = gt .no-numbers; evaluates = (gt .says .0 4, cell-evaluates 4) }
+          (sound-same (o .says .sound) (gt .same), omega arith, gt .no-numbers)
 
-      pub root-principal : {out out′ : List ℕ} {answer : Inferred} → checkOf words ≡ Accepted n → RootAnswered tested out answer out′ → InfersWithWork words n out answer out′
-      root-principal v r = r .to v (grounded-principal (gt .says .1)) (cell-evaluates 4)
+      pub root-principal : {out out′ : List ℕ} {answer : Inferred} → checkOf words ≡ Accepted n → CellWritten tested 4 out out′ answer → InfersWithWork words n out answer out′
+      root-principal {out} {out′} {answer} v w = go (w .is (gt .says .0 4) (rw (same-store (gt .same)) (gt .says .1 .at 4)))
+        where
+          go : TypeWritten (wordsOf (gt .says .0 4)) out out′ answer → InfersWithWork words n out answer out′
+          go (fits enough-out is after) = record { given = λ work enough. typed v enough (grounded-principal (gt .says .1)) enough-out (rw (is, after) refl) }
+          go (over short is same) = record { given = λ work enough. out-short v enough (grounded-principal (gt .says .1)) short (rw (is, same) refl) }
 
 -- ---- The answer
 
 module _ {words : List ℕ} {n : ℕ} {out : List ℕ} (v : checkOf words ≡ Accepted n) where
   pub infers-none : ((τ : Ty) → ¬ Has empty (expOf words) τ) → InfersWithWork words n out (Refused 6 0) out
   infers-none none = record { given = λ work enough. no-type v enough none refl }
-
-module _ {cells out out′ : List ℕ} {room : Room} (w : CellWritten cells 4 out out′ room) where
-  pub root-over : room ≡ Over → RootAnswered cells out (Refused 7 0) out′
-  root-over over = record { to = λ v p d. go v p (rw over at (w .is _ d)) }
-    where
-      go : {words : List ℕ} {n : ℕ} {τ : Ty} → checkOf words ≡ Accepted n → Principal empty (expOf words) τ → TypeWritten (wordsOf τ) out out′ Over → InfersWithWork words n out (Refused 7 0) out′
-      go {n = n} v p (short, same) = record { given = λ work enough. out-short v enough p short (ap (leaves (Refused 7 0) (cleared n work)) same) }
-
-  module _ {left : ℕ} (fits : room ≡ Left left) where
-    pub left-within : RootReady cells → left ≤ length out
-    left-within r =
-        let (τ, d) = r .evaluates in
-        let (split, is) = rw fits at (w .is τ d) in
-        omega arith
-
-    pub root-typed : RootAnswered cells out (Typed (length out - left)) out′
-    root-typed = record { to = λ v p d. go v p (rw fits at (w .is _ d)) }
-      where
-        go : {words : List ℕ} {n : ℕ} {τ : Ty} → checkOf words ≡ Accepted n → Principal empty (expOf words) τ → TypeWritten (wordsOf τ) out out′ (Left left) → InfersWithWork words n out (Typed (length out - left)) out′
-        go {τ = τ} v p (split, is) =
-            let count : length out - left ≡ length (wordsOf τ) = omega arith in
-            rw (count, is) (record { given = λ work enough. typed v enough p (omega arith) refl })
 
 -- ---- The slices
 

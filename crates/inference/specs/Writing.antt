@@ -3,9 +3,9 @@ use Prim.Native.Nat.{ℕ, suc, _+_, _-_, _≤_, _<_}
 use mathlib.Core.Path.{_≡_}
 use mathlib.Core.Bool.{Bool, not, cond}
 use mathlib.Core.Logic.{_≢_}
-use mathlib.Core.List.{List, [], _∷_, _++_}
+use mathlib.Core.List.{List, [], _∷_}
 use lib.Dec.{eqb}
-use lib.ListN.{length, drop}
+use lib.ListN.{length}
 use lib.Seq.{sets}
 use Rattle.language.specs.Ty.{Ty}
 use Rattle.language.specs.Unification.{size}
@@ -13,25 +13,23 @@ use Rattle.language.specs.WrittenForm.{occurs, appearing, placeIn, spell, words
 use Rattle.equations.specs.Cells.{Ev}
 use Rattle.inference.specs.Layout.{cellAt, pairAt, cellsIn, storeOf, Sound}
 use Rattle.inference.specs.Count.{count}
-use Rattle.inference.specs.declared.write.Room.{Room}
-use Rattle.inference.specs.declared.write.Room.the-variants.{Left, Over}
+use Rattle.inference.specs.Inference.{withType}
+use Rattle.inference.specs.declared.Inferred.{Inferred}
+use Rattle.inference.specs.declared.Inferred.the-variants.{Typed, Refused}
 use Rattle.inference.specs.declared.write.Rest.{Rest}
 use Rattle.inference.specs.declared.write.Word.{Word}
 
 -- ---- The contract of writing
 
--- So many words are taken from the room, or the room is less.
-abbrev pub Taken : ℕ → ℕ → Room → Type 0
-Taken words room (Left left) = words + left ≡ room
-Taken words room Over = room < words
-
--- A type is at the beginning of the slice and all later words are as they were, or it has more words than the slice and none was written.
-abbrev pub TypeWritten : List ℕ → List ℕ → List ℕ → Room → Type 0
-TypeWritten type before after (Left left) = (length type + left ≡ length before) × (after ≡ type ++ drop (length type) before)
-TypeWritten type before after Over = (length before < length type) × (after ≡ before)
+-- The answer to a type that is to stand at the beginning of a slice, and the slice's words before and after.
+pub data TypeWritten (type before after : List ℕ) (r : Inferred) : Type 0 where
+  -- It is written, and all later words are as they were.
+  fits : length type ≤ length before → r ≡ Typed (length type) → after ≡ withType type before → TypeWritten type before after r
+  -- It has more words than the slice, and none was written.
+  over : length before < length type → r ≡ Refused 7 0 → after ≡ before → TypeWritten type before after r
 
 -- The same for the type that cell i evaluates to.
-pub record CellWritten (cells : List ℕ) (i : ℕ) (before after : List ℕ) (r : Room) : Type 0 where
+pub record CellWritten (cells : List ℕ) (i : ℕ) (before after : List ℕ) (r : Inferred) : Type 0 where
   pub is : (τ : Ty) → Ev (storeOf cells) i τ → TypeWritten (wordsOf τ) before after r
 
 -- ---- Following links and measuring
@@ -42,14 +40,10 @@ pub record Root (cells : List ℕ) (i r : ℕ) : Type 0 where
   pub no-link : cellAt cells r .tag ≢ 1
   pub same : (τ : Ty) → Ev (storeOf cells) i τ → Ev (storeOf cells) r τ
 
--- Less than the room is left.
-abbrev pub Fallen : ℕ → Room → Type 0
-Fallen room (Left left) = left < room
-Fallen room Over = Unit
-
-pub record Measured (cells : List ℕ) (i room : ℕ) (r : Room) : Type 0 where
-  pub falls : Fallen room r
-  pub takes : (τ : Ty) → Ev (storeOf cells) i τ → Taken (size τ) room r
+-- What is left of the room after the words of cell i's type, 0 if it has as many or more.
+pub record Measured (cells : List ℕ) (i room left : ℕ) : Type 0 where
+  pub no-more : left ≤ room
+  pub takes : (τ : Ty) → Ev (storeOf cells) i τ → left ≡ room - size τ
 
 -- ---- Numbering
 

@@ -18,12 +18,12 @@ use Rattle.equations.specs.Grounded.{ev-at}
 use Rattle.inference.specs.Layout.{cellAt, pairAt, cellsIn, storeOf, Sound, PairPut}
 use Rattle.inference.specs.StoreLaws.{store-beside, sound-beside, says-free}
 use Rattle.inference.specs.Count.{count, count-bound, count-changed, none-counted}
-use Rattle.inference.specs.Writing.{CellWritten, Root, Measured, numberIn, Numbers, hasNumber, Ready, Kept, wordsAfter, LeafCell, OneWord, LeafSpelled, WordsPut, Wrote}
+use Rattle.inference.specs.Writing.{TypeWritten, fits, over, CellWritten, Root, Measured, numberIn, Numbers, hasNumber, Ready, Kept, wordsAfter, LeafCell, OneWord, LeafSpelled, WordsPut, Wrote}
 use Rattle.inference.specs.Spelling.{length-spell, size-positive, number-other, appearing-new, number-new, words-new, appearing-old, words-old, words-arrow}
 use Rattle.inference.specs.RootTypes.{parts, LeafType, is-variable, is-unit, is-bool, is-int, leaf-type}
 use Rattle.inference.specs.declared.cells.TypeCell.{TypeCell}
 use Rattle.inference.specs.declared.cells.Pair.{Pair}
-use Rattle.inference.specs.declared.write.Room.the-variants.{Left, Over}
+use Rattle.inference.specs.declared.Inferred.the-variants.{Typed, Refused}
 use Rattle.inference.specs.declared.write.Rest.{Rest}
 use Rattle.inference.specs.declared.write.Word.{Word}
 
@@ -195,21 +195,22 @@ module _ {cells : List ℕ} (none : (j : ℕ) → pairAt cells j .right ≡ 0) w
   unfolding numberIn occurs
   none-seen = record { beside = none; as-many = refl }
 
-  pub all-written : (out : List ℕ) {i left total : ℕ} {cells′ part : List ℕ} {rest : Rest} → total + left ≡ length out → Measured cells i (length out) (Left left) →
-      Wrote cells i (take total out) total 0 cells′ part rest → CellWritten cells i out (part ++ drop total out) (Left left)
+  pub all-written : (out : List ℕ) {i left count : ℕ} {cells′ part : List ℕ} {rest : Rest} → left ≢ 0 → count + left ≡ length out + 1 →
+      Measured cells i (length out + 1) left → Wrote cells i (take count out) count 0 cells′ part rest →
+      CellWritten cells i out (part ++ drop count out) (Typed count)
   unfolding wordsOf
-  all-written out {i} {left} {total} {part = part} split measured wrote = record { is = written }
+  all-written out {i} {left} {count} {part = part} some split measured wrote = record { is = written }
     where
-      written : (τ : Ty) → Ev (storeOf cells) i τ → (length (wordsOf τ) + left ≡ length out) × (part ++ drop total out ≡ wordsOf τ ++ drop (length (wordsOf τ)) out)
+      written : (τ : Ty) → Ev (storeOf cells) i τ → TypeWritten (wordsOf τ) out (part ++ drop count out) (Typed count)
       written τ d =
           let taken = measured .takes τ d in
-          let as-long : length (wordsOf τ) ≡ total = length-spell _ τ ∙ omega arith in
-          let room : length (take total out) ≡ total = length-take-le total out (omega arith) in
-          let start : length (take total out) - total ≡ 0 = omega arith in
+          let as-long : length (wordsOf τ) ≡ count = length-spell _ τ ∙ omega arith in
+          let room : length (take count out) ≡ count = length-take-le count out (omega arith) in
+          let start : length (take count out) - count ≡ 0 = omega arith in
           let put = wrote .written [] τ none-seen d (omega arith) .put in
-          let all : part ≡ wordsOf τ = put ∙ rw start (all-put (take total out) (wordsOf τ) (omega arith)) in
-          (omega arith, rw (all, as-long))
+          let all : part ≡ wordsOf τ = put ∙ rw start (all-put (take count out) (wordsOf τ) (omega arith)) in
+          fits (omega arith) (rw as-long refl) (rw (all, as-long) refl)
 
-pub none-written : (out : List ℕ) {cells : List ℕ} {i : ℕ} → Measured cells i (length out) Over → CellWritten cells i out out Over
+pub none-written : (out : List ℕ) {cells : List ℕ} {i left : ℕ} → left ≡ 0 → Measured cells i (length out + 1) left → CellWritten cells i out out (Refused 7 0)
 unfolding wordsOf
-none-written out measured = record { is = λ τ d. (rw length-spell (measured .takes τ d), refl) }
+none-written out none measured = record { is = λ τ d. over (rw length-spell (omega (arith, measured .takes τ d))) refl refl }

@@ -6,14 +6,11 @@ mod solve;
 mod write;
 
 use table::Verdict;
-use write::Room;
 ghost use mathlib.Core.Path.{_≡_};
-ghost use lib.ListN.{length};
 ghost use Rattle.table.specs.Refusals.{countOf, checkOf};
 ghost use Rattle.table.specs.declared.Verdict.the-variants.{Nodes as Accepted};
 ghost use Rattle.inference.specs.TableCells.{TableReady, TableRoom};
-ghost use Rattle.inference.specs.Inference.{leaves, Infers};
-ghost use Rattle.inference.specs.Answering.{InfersWithWork, RootReady, RootAnswered};
+ghost use Rattle.inference.specs.Inference.{leaves, Infers, InfersWithWork};
 
 // What inference of a table answers.
 pub enum Inferred {
@@ -23,27 +20,14 @@ pub enum Inferred {
     Refused { code: u32, place: u32 },
 }
 
-// The root's type, which is cell 4's, if it fits.
-fn answer(cells: &mut [u32], out: &mut [u32]) -> Inferred
-    requires { ⌜ RootReady (now cells) ⌝ }
-    ensures { λ r. ⌜ RootAnswered (now (cells .entry)) (now (out .entry)) r (now (out .exit)) ⌝ }
-{
-    let length = out.len();
-    let room = write::write_type(cells, 4, out);
-    let Room::Left(left) = room else {
-        return Inferred::Refused { code: 7, place: 0 };
-    };
-    Inferred::Typed(length - left)
-}
-
-// The type of a checked table, in cells that are all free.
+// The type of a checked table, which is cell 4's, in cells that are all free.
 fn principal(words: &[u32], n: u32, cells: &mut [u32], out: &mut [u32]) -> Inferred
     requires { ⌜ TableReady (now words) n (now cells) × (checkOf (now words) ≡ Accepted n) ⌝ }
     ensures { λ r. ⌜ InfersWithWork (now (words .entry)) n (now (out .entry)) r (now (out .exit)) ⌝ }
 {
     if rules::solve_table(words, cells, n) {
         if ground::grounded(cells, 2 * n + 4) {
-            return answer(cells, out);
+            return write::write_type(cells, 4, out);
         }
     }
     Inferred::Refused { code: 6, place: 0 }

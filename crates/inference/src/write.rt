@@ -1,5 +1,6 @@
 // The type of a cell, measured and written. Both are recursions over the type's structure with a count of remaining words that falls at
-// each call.
+// each call. The left part of an arrow is a call, the right part the next round of a loop.
+use crate::Inferred;
 use crate::cells::Pair;
 use crate::cells::get;
 use crate::cells::get_pair;
@@ -9,12 +10,6 @@ ghost use mathlib.Core.Path.{_≡_};
 ghost use lib.ListN.{length};
 ghost use Rattle.inference.specs.Layout.{cellAt, pairAt, cellsIn, Sound};
 ghost use Rattle.inference.specs.Writing.{Root, Measured, Ready, LeafCell, LeafSpelled, Wrote, CellWritten};
-
-// What is left of a room, or that it is too small.
-pub(crate) enum Room {
-    Left(usize),
-    Over,
-}
 
 // How many words remain to be written, and how many variables have a number.
 struct Rest {
@@ -43,24 +38,25 @@ fn root(cells: &[u32], i: u32) -> u32
     }
 }
 
-// What is left of the room after the words of cell i's type.
-fn measure(cells: &[u32], i: u32, room: usize) -> Room
+// What is left of the room after the words of cell i's type, 0 if it has as many or more.
+fn measure(cells: &[u32], i: u32, room: usize) -> usize
     requires { ⌜ Sound (now cells) × (i < cellsIn (now cells)) ⌝ }
     ensures { λ r. ⌜ Measured (now (cells .entry)) i room r ⌝ }
 {
-    if room == 0 {
-        return Room::Over;
+    let mut i = i;
+    let mut room = room;
+    loop {
+        if room == 0 {
+            return 0;
+        }
+        let r = root(cells, i);
+        let c = get(cells, r);
+        if c.tag != 5 {
+            return room - 1;
+        }
+        room = measure(cells, c.a, room - 1);
+        i = c.b;
     }
-    let r = root(cells, i);
-    let c = get(cells, r);
-    if c.tag != 5 {
-        return Room::Left(room - 1);
-    }
-    let first = measure(cells, c.a, room - 1);
-    let Room::Left(rest) = first else {
-        return Room::Over;
-    };
-    measure(cells, c.b, rest)
 }
 
 // The word of the variable of cell r, which gets the next number if it has none. Beside its cell stands its number plus one.
@@ -109,38 +105,46 @@ fn write(cells: &mut [u32], out: &mut [u32], i: u32, left: usize, numbered: u32)
     requires { ⌜ Ready (now cells) numbered × (i < cellsIn (now cells)) × (left ≤ length (now out)) ⌝ }
     ensures { λ rest. ⌜ Wrote (now (cells .entry)) i (now (out .entry)) left numbered (now (cells .exit)) (now (out .exit)) rest ⌝ }
 {
-    if left == 0 {
-        return Rest {
-            left: left,
-            numbered: numbered,
-        };
-    }
-    let r = root(cells, i);
-    let c = get(cells, r);
-    let at = out.len() - left;
-    if c.tag == 5 {
+    let mut i = i;
+    let mut left = left;
+    let mut numbered = numbered;
+    loop {
+        if left == 0 {
+            return Rest {
+                left: left,
+                numbered: numbered,
+            };
+        }
+        let r = root(cells, i);
+        let c = get(cells, r);
+        let at = out.len() - left;
+        if c.tag != 5 {
+            let w = leaf(cells, r, numbered);
+            out[at] = w.word;
+            return Rest {
+                left: left - 1,
+                numbered: w.numbered,
+            };
+        }
         out[at] = 4;
         let first = write(cells, out, c.a, left - 1, numbered);
-        return write(cells, out, c.b, first.left, first.numbered);
-    }
-    let w = leaf(cells, r, numbered);
-    out[at] = w.word;
-    Rest {
-        left: left - 1,
-        numbered: w.numbered,
+        left = first.left;
+        numbered = first.numbered;
+        i = c.b;
     }
 }
 
-// The type of cell i at the beginning of `out`, if it fits: answers what is left of `out`.
-pub(crate) fn write_type(cells: &mut [u32], i: u32, out: &mut [u32]) -> Room
+// The type of cell i at the beginning of `out`, if it fits. Its room is one word more than `out`, so that a type that fits leaves some.
+pub(crate) fn write_type(cells: &mut [u32], i: u32, out: &mut [u32]) -> Inferred
     requires { ⌜ Sound (now cells) × (i < cellsIn (now cells)) × ((j : ℕ) → pairAt (now cells) j .right ≡ 0) ⌝ }
     ensures { λ r. ⌜ CellWritten (now (cells .entry)) i (now (out .entry)) (now (out .exit)) r ⌝ }
 {
-    let room = measure(cells, i, out.len());
-    let Room::Left(left) = room else {
-        return room;
-    };
-    let total = out.len() - left;
-    write(cells, &mut out[..total], i, total, 0);
-    Room::Left(left)
+    let room = out.len() + 1;
+    let left = measure(cells, i, room);
+    if left == 0 {
+        return Inferred::Refused { code: 7, place: 0 };
+    }
+    let count = room - left;
+    write(cells, &mut out[..count], i, count, 0);
+    Inferred::Typed(count)
 }

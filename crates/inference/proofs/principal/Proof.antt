@@ -19,8 +19,8 @@ add-grounded c = search needs
 grounded-requires : tie.Need-grounded-requires
 grounded-requires c κs = ((outcome-is (c .before .before .before .before .solve-table .ensures) (c .before .if1 .taken)) .says .sound, c .before .before .before .before .solve-table .ensures .same-length ∙ c .before .before .before .before .before .before .before .before .before .pre .0 .whole)
 
-answer-requires : tie.Need-answer-requires
-answer-requires c κs = root-ready (c .before .before .before .before .before .before .before .before .before .before .before .before .before .before .before .pre .0) (outcome-is (c .before .before .before .before .before .before .before .before .before .before .solve-table .ensures) (c .before .before .before .before .before .before .before .if1 .taken)) (ground-tested-is (c .before .before .before .before .before .grounded .ensures) (c .before .before .if2 .taken))
+write-type-requires : tie.Need-write-type-requires
+write-type-requires c κs = root-ready (c .before .before .before .before .before .before .before .before .before .before .before .before .before .before .before .pre .0) (outcome-is (c .before .before .before .before .before .before .before .before .before .before .solve-table .ensures) (c .before .before .before .before .before .before .before .if1 .taken)) (ground-tested-is (c .before .before .before .before .before .grounded .ensures) (c .before .before .if2 .taken))
 
 same-length : tie.Need-same-length
 same-length c = search needs
@@ -29,7 +29,7 @@ same-length-2 : tie.Need-same-length-2
 same-length-2 c = search needs
 
 returns : tie.Need-returns
-returns c = root-principal (c .before .before .before .before .before .before .before .before .before .before .before .before .before .before .before .before .before .before .before .before .pre .0) (outcome-is (c .before .before .before .before .before .before .before .before .before .before .before .before .before .before .before .solve-table .ensures) (c .before .before .before .before .before .before .before .before .before .before .before .before .if1 .taken)) (ground-tested-is (c .before .before .before .before .before .before .before .before .before .before .grounded .ensures) (c .before .before .before .before .before .before .before .if2 .taken)) (c .before .before .before .before .before .before .before .before .before .before .before .before .before .before .before .before .before .before .before .before .pre .1) (c .before .before .before .before .answer .ensures)
+returns c = root-principal (c .before .before .before .before .before .before .before .before .before .before .before .before .before .before .before .before .before .before .before .before .pre .0) (outcome-is (c .before .before .before .before .before .before .before .before .before .before .before .before .before .before .before .solve-table .ensures) (c .before .before .before .before .before .before .before .before .before .before .before .before .if1 .taken)) (ground-tested-is (c .before .before .before .before .before .before .before .before .before .before .grounded .ensures) (c .before .before .before .before .before .before .before .if2 .taken)) (c .before .before .before .before .before .before .before .before .before .before .before .before .before .before .before .before .before .before .before .before .pre .1) (c .before .before .before .before .write-type .ensures)
 
 same-length-3 : tie.Need-same-length-3
 same-length-3 c = search needs
@@ -51,7 +51,7 @@ principal-spec =
     mul-grounded
     add-grounded
     grounded-requires
-    answer-requires
+    write-type-requires
     same-length
     same-length-2
     returns
