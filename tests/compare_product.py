@@ -18,7 +18,7 @@ from collections import Counter
 sys.path.insert(0, os.path.dirname(os.path.abspath(__file__)))
 from check_tables import damaged, tree  # noqa: E402
 from compare_runs import BENCH as RUNS, Machine, arithmetic, recursive_sum  # noqa: E402
-from compare_types import BENCH as TYPES, Inference, apply, doubled, just_past, lambdas, name, table, table_of  # noqa: E402
+from compare_types import BENCH as TYPES, Inference, apply, doubled, fun, just_past, lambdas, name, table, table_of  # noqa: E402
 from trials import lines, output  # noqa: E402
 
 WORK, OUT, STORE, FUEL = 12304, 64, 512, 100000
@@ -114,11 +114,20 @@ def packed(words):
     return struct.pack("<%dI" % len(words), *words)
 
 
+def nested(times):
+    """fun x -> x (fun x -> x (..)), whose type has as many arrows left of one another: the most stack that we know."""
+    expression = (0,)
+    for _ in range(times):
+        expression = fun(0, apply(name(0), expression))
+    return table_of(expression)
+
+
 def chosen():
     """Tables at the limits, with the room and fuel of the program and around."""
     equal = [5, 1, 4, 0, 5, 2, 3, 0, 3, 9, 0, 0, 1, 1, 0, 0, 1, 1, 0, 0]
     tables = [words for words, _, _ in RUNS + TYPES] + [[], equal, lambdas(511), lambdas(512), lambdas(31), lambdas(32), doubled(5),
-                                                        doubled(6), just_past(10), just_past(64), recursive_sum(200), recursive_sum(300)]
+                                                        doubled(6), just_past(10), just_past(64), nested(170), recursive_sum(200),
+                                                        recursive_sum(300)]
     for words in tables:
         formula = Formula(words)
         for room, fuel in (256, FUEL), (0, 0), (3, 1), (4092, 13), (4095, 14), (4096, 2 ** 32 - 1), (5828, 20), (16384, 21):
