@@ -1,45 +1,53 @@
-/* usage: calls WHAT COUNT OUT FILE: makes COUNT calls of WHAT (rattle, c, rattle-check, c-check) on the table of decimal words in FILE,
-   with an out slice of OUT words. Instructions of COUNT calls less those of none are the cost of the calls. `same` makes a call of both
-   and fails where an answer or a lent word differs. */
+/* usage: calls CALL SIDE COUNT FILE ROOM FUEL: makes COUNT calls of CALL (check, infer, run) by SIDE (rattle, c) on the table of decimal
+   words in FILE, with an out slice of ROOM words, or with FUEL and two stores of ROOM cells. Instructions of one call less those of none
+   are the cost of the call. Where SIDE is `both`, makes a call of each, prints the answer, and fails where an answer or a lent word
+   differs. */
 #include <inttypes.h>
-#include <stdint.h>
 #include <stdio.h>
 #include <stdlib.h>
 #include <string.h>
+#include "calls.h"
 
-uint64_t rattle_check(const uint32_t *, size_t);
-uint64_t rattle_infer(const uint32_t *, size_t, uint32_t *, size_t, uint32_t *, size_t);
-uint64_t c_check(const uint32_t *, size_t);
-uint64_t c_infer(const uint32_t *, size_t, uint32_t *, size_t, uint32_t *, size_t);
+enum { WORDS = 2048, WORK = 24 * 512 + 16, OUT = 4096, STORE = 8 * 4096 };
+static uint32_t words[WORDS + 1], fuel;
+static size_t length, room;
 
-enum { WORDS = 2048, WORK = 24 * 512 + 16, OUT = 4096 };
-static uint32_t words[WORDS + 1], work[2][WORK], out[2][OUT];
+/* One side's calls, and what is lent to them. */
+struct side {
+    check_call *check;
+    infer_call *infer;
+    run_call *run;
+    struct lent { uint32_t work[WORK], out[OUT], bindings[STORE], frames[STORE], counts[2]; } lent;
+};
+static struct side rattle = {.check = rattle_check, .infer = rattle_infer, .run = rattle_run};
+static struct side c = {.check = c_check, .infer = c_infer, .run = c_run};
+
+static uint64_t call(char what, struct side *s) {
+    struct lent *l = &s->lent;
+    switch (what) {
+    case 'c': return s->check(words, length);
+    case 'i': return s->infer(words, length, l->work, WORK, l->out, room);
+    default: return s->run(words, length, fuel, l->bindings, 8 * room, l->frames, 8 * room, l->counts, 2);
+    }
+}
 
 int main(int argc, char **argv) {
-    if (argc != 5) return 2;
-    const char *what = argv[1];
-    size_t room = strtoul(argv[3], NULL, 10), length = 0;
+    if (argc != 7) return 2;
+    char what = argv[1][0];
     FILE *file = fopen(argv[4], "r");
+    room = strtoul(argv[5], NULL, 10);
+    fuel = (uint32_t)strtoul(argv[6], NULL, 10);
     if (file == NULL || room > OUT) return 2;
     while (length <= WORDS && fscanf(file, "%" SCNu32, &words[length]) == 1) length++;
-    memset(work, 255, sizeof work);
-    memset(out, 255, sizeof out);
-    if (strcmp(what, "same") == 0) {
-        uint64_t r = rattle_infer(words, length, work[0], WORK, out[0], room), c = c_infer(words, length, work[1], WORK, out[1], room);
-        printf("%" PRIu32 " %" PRIu64 "\n", (uint32_t)r, r >> 32);
-        return r != c || memcmp(work[0], work[1], sizeof work[0]) != 0 || memcmp(out[0], out[1], sizeof out[0]) != 0;
+    memset(&rattle.lent, 255, sizeof rattle.lent);
+    memset(&c.lent, 255, sizeof c.lent);
+    if (strcmp(argv[2], "both") == 0) {
+        uint64_t answer = call(what, &rattle), other = call(what, &c);
+        const uint32_t *counts = rattle.lent.counts;
+        printf("%" PRIu32 " %" PRIu64 " %" PRIu32 " %" PRIu32 "\n", (uint32_t)answer, answer >> 32, counts[0], counts[1]);
+        return answer != other || memcmp(&rattle.lent, &c.lent, sizeof c.lent) != 0;
     }
-    long count = strtol(argv[2], NULL, 10);
-    uint64_t (*check)(const uint32_t *, size_t) = NULL;
-    uint64_t (*infer)(const uint32_t *, size_t, uint32_t *, size_t, uint32_t *, size_t) = NULL;
-    if (strcmp(what, "rattle-check") == 0) check = rattle_check;
-    else if (strcmp(what, "c-check") == 0) check = c_check;
-    else if (strcmp(what, "rattle") == 0) infer = rattle_infer;
-    else if (strcmp(what, "c") == 0) infer = c_infer;
-    else return 2;
-    for (; count > 0; count--) {
-        if (check != NULL) check(words, length);
-        else infer(words, length, work[0], WORK, out[0], room);
-    }
+    struct side *side = strcmp(argv[2], "rattle") == 0 ? &rattle : &c;
+    for (long count = strtol(argv[3], NULL, 10); count > 0; count--) call(what, side);
     return 0;
 }

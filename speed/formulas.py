@@ -1,9 +1,8 @@
-#!/usr/bin/env python3
-"""Writes the tables whose inference is counted, one file of decimal words each. usage: formulas.py FOLDER
+"""The formulas whose inference and run are counted, as tables of words.
 
-Typical formulas are made at random from a fixed seed and have a type. The others are the worst that we know for one part of the work."""
+For inference: typical formulas, made at random from a fixed seed, which have a type, and the worst that we know for one part of the work.
+For the run: a recursive sum, a higher-order formula, and one for each part of the machine."""
 import random
-import sys
 
 BOOL, INT, OPERATOR, NAME, APP, IF, LAMBDA, LET, REC = 1, 2, 3, 4, 5, 6, 7, 8, 9
 
@@ -220,24 +219,90 @@ def exponential(n):
     return padded(n, Node(LET, 0, Node(INT, 1), doubled(times, 0)))
 
 
-def main(folder):
-    tables = {}
-    for n in (20, 40, 60, 64, 128, 256, 512):
-        for seed in (1, 2, 3):
-            tables["typical-%d-%d" % (n, seed)] = typical(n, seed)
-    for n in (64, 128, 256, 512):
-        tables["links-%d" % n] = link_chain(n)
-        tables["pending-%d" % n] = pending(n)
-        tables["arrows-%d" % n] = nested_right(n)
-        tables["zigzag-%d" % n] = zigzag(n)
-        tables["names-%d" % n] = far_names(n)
-        tables["exponential-%d" % n] = exponential(n)
-        tables["long-%d" % n] = long_type(n, 7)
-    tables["longest-512"] = long_type(512, 10)
-    for key, table in tables.items():
-        assert len(table) == 4 * int(key.split("-")[1]), (key, len(table))
-        with open("%s/%s" % (folder, key), "w") as file:
-            print(*table, file=file)
+# ---- For the run
 
 
-main(sys.argv[1])
+def number(n):
+    return Node(INT, n)
+
+
+def apply(function, *arguments):
+    for argument in arguments:
+        function = Node(APP, function, argument)
+    return function
+
+
+PLUS, MINUS, TIMES, EQUAL = 0, 1, 2, 9
+
+
+def operate(operator, left, right):
+    return apply(Node(OPERATOR, operator), left, right)
+
+
+def filled(n, node):
+    """The formula in preorder, under so many recs that it has n nodes."""
+    while len(preorder(node)) < n:
+        node = Node(REC, 65535, node)
+    return words(preorder(node))
+
+
+def identity():
+    """(fun x -> x) 7"""
+    return words(preorder(apply(Node(LAMBDA, 0, name(0)), number(7))))
+
+
+def recursive_sum(n):
+    """(rec sum -> fun n -> if = n 0 then 0 else + n (sum (- n 1))) n"""
+    SUM, N = 0, 1
+    more = operate(PLUS, name(N), apply(name(SUM), operate(MINUS, name(N), number(1))))
+    body = Node(IF, operate(EQUAL, name(N), number(0)), number(0), more)
+    return words(preorder(apply(Node(REC, SUM, Node(LAMBDA, N, body)), number(n))))
+
+
+def higher_order(n):
+    """let twice = fun f -> fun x -> f (f x) in
+    (rec fold -> fun f -> fun a -> fun n -> if = n 0 then a else fold f (f a n) (- n 1)) (fun a -> fun n -> twice (+ n) a) 0 n"""
+    TWICE, F, X, FOLD, A, N = range(6)
+    twice = Node(LAMBDA, F, Node(LAMBDA, X, apply(name(F), apply(name(F), name(X)))))
+    again = apply(name(FOLD), name(F), apply(name(F), name(A), name(N)), operate(MINUS, name(N), number(1)))
+    body = Node(IF, operate(EQUAL, name(N), number(0)), name(A), again)
+    fold = Node(REC, FOLD, Node(LAMBDA, F, Node(LAMBDA, A, Node(LAMBDA, N, body))))
+    step = Node(LAMBDA, A, Node(LAMBDA, N, apply(name(TWICE), apply(Node(OPERATOR, PLUS), name(N)), name(A))))
+    return words(preorder(Node(LET, TWICE, twice, apply(fold, step, number(0), number(n)))))
+
+
+def arithmetic(n):
+    """A tree of operators over ones, as deep on the left as on the right."""
+    def tree(leaves, depth):
+        if leaves == 1:
+            return number(1)
+        operator = (PLUS, MINUS, TIMES)[depth % 3]
+        return operate(operator, tree(leaves // 2, depth + 1), tree(leaves - leaves // 2, depth + 1))
+    return filled(n, tree((n + 3) // 4, 0))
+
+
+def applications(n):
+    """The identity, applied again and again: (fun x -> x) ((fun x -> x) (.. 7))"""
+    node = number(7)
+    for _ in range((n - 1) // 3):
+        node = apply(Node(LAMBDA, 0, name(0)), node)
+    return filled(n, node)
+
+
+def lets(n, back):
+    """let x0 = 1 in let x1 = .. in .., where each name is bound to that of the let so many before it, the first at most."""
+    count = (n - 1) // 2
+    node = name(max(0, count - back))
+    for i in range(count - 1, 0, -1):
+        node = Node(LET, i, name(max(0, i - back)), node)
+    return filled(n, Node(LET, 0, number(1), node))
+
+
+def endless():
+    """rec x -> x"""
+    return words(preorder(Node(REC, 0, name(0))))
+
+
+# Each is the worst that we know for one part of inference.
+WORST = {"arrows": nested_right, "exponential": exponential, "lets": lambda n: lets(n, n), "links": link_chain, "names": far_names,
+         "pending": pending, "zigzag": zigzag}

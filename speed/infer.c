@@ -1,10 +1,8 @@
 /* Inference as in crates/table and crates/inference, written in C by hand: the same cells, tests and order, to count what Rattle's code
    costs beside C's. Nothing here is proved. The answer is the code in the low 32 bits and the place, or the count of type words, above. */
 #include <stdbool.h>
-#include <stddef.h>
-#include <stdint.h>
+#include "calls.h"
 
-struct node { uint32_t kind, a, b, c; };
 /* A type cell and the pair beside it: a pending pair while solving, then a mark and a variable's number plus one. */
 struct cell { uint32_t tag, a, b, left, right; };
 enum { FREE, LINK, UNIT, BOOL, INT, ARROW };

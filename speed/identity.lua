@@ -1,0 +1,2 @@
+-- The identity at a number, as identity of formulas.py.
+print((function(x) return x end)(7))
