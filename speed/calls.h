@@ -1,5 +1,5 @@
-/* The calls that are counted, in Rattle (entries.rt) and in C (infer.c, machine.c). Each answers its code in the low 32 bits, and its place,
-   payload or count above. */
+/* The calls that are counted, in Rattle (entries.rt) and in C (infer.c, machine.c). Each answers its code in the low 32 bits, and its
+   place, payload or count above. */
 #include <stddef.h>
 #include <stdint.h>
 

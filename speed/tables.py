@@ -1,8 +1,8 @@
 #!/usr/bin/env python3
 """Counts instructions and prints the tables of docs/SPEED.md. usage: tables.py BUILT [PATTERN]
 
-BUILT is the folder that `run` has made, with the programs `calls` and `formula`, the plugin, and Lua below `amd64`. With a pattern, only the
-rows whose name has it."""
+BUILT is the folder that `run` has made, with the programs `calls` and `formula`, the plugin, and Lua below `amd64`. With a pattern, only
+the rows whose name has it."""
 import pathlib
 import re
 import subprocess

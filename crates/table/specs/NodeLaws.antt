@@ -12,9 +12,10 @@ use Rattle.language.specs.Expression.{Constant, Name}
 use Rattle.table.specs.Node.{Node, constant-node, name-node, application-node, if-node, lambda-node, let-node, rec-node, Field, field-a, field-b, field-c, wordAt, nodeOf, nodeAt}
 use Rattle.table.specs.Scope.{bindsIn, isNamed, nameOf}
 use Rattle.table.specs.Refusals.{once, timesIn}
-use Rattle.table.specs.Reading.{wordsAt, nodeIn, childrenIn, metIn, met, aboveIf, bindingIf, letMet}
+use Rattle.table.specs.Reading.{wordsAt, nodeIn, childrenIn, nodeFrom, metIn, met, aboveIf, bindingIf, letMet}
 use Rattle.table.specs.declared.NodeWords.{NodeWords}
-use Rattle.table.specs.declared.Met.the-variants.{Elsewhere}
+use Rattle.table.specs.declared.Met.{Met}
+use Rattle.table.specs.declared.Met.the-variants.{Elsewhere, Above}
 
 -- ---- Nodes by their kind
 
@@ -109,11 +110,21 @@ module _ (kind a b c k : ℕ) where
         go false true = refl
         go false false = refl
 
+-- It is enough that one field holds the child.
+pub second-holds : (p s : Bool) → aboveIf p true s ≡ Above
+second-holds true s = refl
+second-holds false s = refl
+
+pub third-holds : (p q : Bool) → aboveIf p q true ≡ Above
+third-holds true q = refl
+third-holds false true = refl
+third-holds false false = refl
+
 -- ---- Nodes that the walk in search of a binder passes
 
 -- Words i to i + 3 are a node that is no parent of k, whatever name is searched for.
 pub record Passed (words : List ℕ) (i k : ℕ) : Type 0 where
-  pub elsewhere : (x : Name) → met (nodeOf (wordAt words i) (wordAt words (i + 1)) (wordAt words (i + 2)) (wordAt words (i + 3))) x k ≡ Elsewhere
+  pub elsewhere : (x : Name) → met (nodeFrom words i) x k ≡ Elsewhere
 
 -- A node without k in its fields is no parent of k.
 fields-differ : (kind a b c k : ℕ) → eqb a k ≡ false → eqb b k ≡ false → eqb c k ≡ false → (x : Name) → met (nodeOf kind a b c) x k ≡ Elsewhere
@@ -137,10 +148,10 @@ module _ {words : List ℕ} {i k : ℕ} where
   pub others-passed : eqb (wordAt words (i + 1)) k ≡ false → (wordAt words (i + 2) ≡ k → ⊥) → (wordAt words (i + 3) ≡ k → ⊥) → Passed words i k
   others-passed da db dc = record { elsewhere = fields-differ (wordAt words i) _ _ _ k da (ne-eqb _ _ db) (ne-eqb _ _ dc) }
 
-  -- The walk goes by the numbers of words, four for each node.
-  pub passed : Passed words i k → i ≡ 4 * (i / 4) → (x : Name) → met (nodeAt words (i / 4)) x k ≡ Elsewhere
-  unfolding nodeAt
-  passed by whole x = rw (sym whole) (by .elsewhere x)
+-- The walk goes by the numbers of words, four for each node.
+pub met-from : (words : List ℕ) (i x k : ℕ) {m : Met} → i ≡ 4 * (i / 4) → met (nodeFrom words i) x k ≡ m → met (nodeAt words (i / 4)) x k ≡ m
+unfolding nodeAt
+met-from words i x k whole e = rw (sym whole) e
 
 -- ---- Names
 

@@ -29,6 +29,10 @@ wordsAt words k =
 abbrev pub nodeIn : NodeWords → Node
 nodeIn w = nodeOf (w .kind) (w .a) (w .b) (w .c)
 
+-- The node in words i to i + 3.
+abbrev pub nodeFrom : List ℕ → ℕ → Node
+nodeFrom words i = nodeOf (wordAt words i) (wordAt words (i + 1)) (wordAt words (i + 2)) (wordAt words (i + 3))
+
 -- ---- Parents
 
 -- Parents have smaller numbers, so it is enough to look for them below the node.

@@ -3,11 +3,12 @@ ghost use Prim.Native.Nat.{_+_, _*_, _≤_, _<_};
 ghost use mathlib.Core.Path.{_≡_};
 ghost use mathlib.Core.Bool.{true, false, not, _&&_};
 ghost use mathlib.Core.Option.{none};
+ghost use lib.Dec.{eqb};
 ghost use lib.ListN.{length};
 ghost use Rattle.table.specs.Node.{wordAt, nodeAt};
 ghost use Rattle.table.specs.Scope.{scope, firstNamed};
 ghost use Rattle.table.specs.Refusals.{miscount, countOf, fits, fitsRule, isChild, once, timesIn, timesBelow, unbound, firstFrom, refuseAt, checkOf};
-ghost use Rattle.table.specs.Reading.{wordsAt, nodeIn, misplacedBelow, childrenIn, childrenBelow, aboveIf, bindingIf, letMet, met, binderAnswer, isNowhere, binderIn};
+ghost use Rattle.table.specs.Reading.{wordsAt, nodeIn, misplacedBelow, childrenIn, childrenBelow, nodeFrom, metAs, aboveIf, bindingIf, letMet, met, binderAnswer, isNowhere, binderIn};
 ghost use Rattle.table.specs.NodeLaws.{Passed};
 
 // What the check of a table answers.
@@ -307,59 +308,77 @@ enum Met {
     Binding,
 }
 
-fn above(p: bool, q: bool, s: bool) -> Met
-    ensures { λ r. ⌜ r ≡ aboveIf p q s ⌝ }
+// The node at word i is the parent, and a binder there.
+fn named(words: &[u32], i: usize, x: u32) -> Met
+    requires { ⌜ i + 4 ≤ length (now words) ⌝ }
+    ensures { λ r. ⌜ r ≡ metAs (eqb (wordAt (now (words .entry)) (i + 1)) x) ⌝ }
 {
-    if p {
-        return Met::Above;
+    if words[i + 1] == x {
+        return Met::Binding;
     }
-    if q {
-        return Met::Above;
-    }
-    if s { Met::Above } else { Met::Elsewhere }
+    Met::Above
 }
 
-fn binding(inside: bool, named: bool) -> Met
-    ensures { λ r. ⌜ r ≡ bindingIf inside named ⌝ }
+fn in_application(words: &[u32], i: usize, current: u32) -> Met
+    requires { ⌜ i + 4 ≤ length (now words) ⌝ }
+    ensures { λ r. ⌜ r ≡ aboveIf (eqb (wordAt (now (words .entry)) (i + 1)) current) (eqb (wordAt (now (words .entry)) (i + 2)) current) false ⌝ }
 {
-    if inside {
-        if named { Met::Binding } else { Met::Above }
-    } else {
-        Met::Elsewhere
+    if words[i + 2] == current {
+        return Met::Above;
     }
+    if words[i + 1] == current {
+        return Met::Above;
+    }
+    Met::Elsewhere
+}
+
+fn in_if(words: &[u32], i: usize, current: u32) -> Met
+    requires { ⌜ i + 4 ≤ length (now words) ⌝ }
+    ensures { λ r. ⌜ r ≡ aboveIf (eqb (wordAt (now (words .entry)) (i + 1)) current) (eqb (wordAt (now (words .entry)) (i + 2)) current) (eqb (wordAt (now (words .entry)) (i + 3)) current) ⌝ }
+{
+    if words[i + 3] == current {
+        return Met::Above;
+    }
+    in_application(words, i, current)
+}
+
+fn in_lambda_or_rec(words: &[u32], i: usize, x: u32, current: u32) -> Met
+    requires { ⌜ i + 4 ≤ length (now words) ⌝ }
+    ensures { λ r. ⌜ r ≡ bindingIf (eqb (wordAt (now (words .entry)) (i + 2)) current) (eqb (wordAt (now (words .entry)) (i + 1)) x) ⌝ }
+{
+    if words[i + 2] == current {
+        return named(words, i, x);
+    }
+    Met::Elsewhere
 }
 
 // A let binds in its body only.
-fn of_let(bound: bool, body: bool, named: bool) -> Met
-    ensures { λ r. ⌜ r ≡ letMet bound body named ⌝ }
+fn in_let(words: &[u32], i: usize, x: u32, current: u32) -> Met
+    requires { ⌜ i + 4 ≤ length (now words) ⌝ }
+    ensures { λ r. ⌜ r ≡ letMet (eqb (wordAt (now (words .entry)) (i + 2)) current) (eqb (wordAt (now (words .entry)) (i + 3)) current) (eqb (wordAt (now (words .entry)) (i + 1)) x) ⌝ }
 {
-    if bound {
-        Met::Above
-    } else {
-        binding(body, named)
+    let bound = words[i + 2];
+    if bound == current {
+        return Met::Above;
     }
+    let body = words[i + 3];
+    if body == current {
+        return named(words, i, x);
+    }
+    Met::Elsewhere
 }
 
-// A walk meets many nodes: a field is read only where the kind needs it.
-fn meet_at(words: &[u32], p: u32, x: u32, current: u32) -> Met
-    requires { ⌜ 4 * p + 4 ≤ length (now words) ⌝ }
-    ensures { λ r. ⌜ r ≡ met (nodeAt (now (words .entry)) p) x current ⌝ }
+// The node at word i. A walk meets many nodes: a field is read only where it decides.
+fn meet_at(words: &[u32], i: usize, x: u32, current: u32) -> Met
+    requires { ⌜ i + 4 ≤ length (now words) ⌝ }
+    ensures { λ r. ⌜ r ≡ met (nodeFrom (now (words .entry)) i) x current ⌝ }
 {
-    let i = 4 * (p as usize);
     let kind = words[i];
     match kind {
-        5 => above(words[i + 1] == current, words[i + 2] == current, false),
-        6 => above(
-            words[i + 1] == current,
-            words[i + 2] == current,
-            words[i + 3] == current,
-        ),
-        7 | 9 => binding(words[i + 2] == current, words[i + 1] == x),
-        8 => {
-            let bound = words[i + 2] == current;
-            let body = words[i + 3] == current;
-            of_let(bound, body, words[i + 1] == x)
-        }
+        5 => in_application(words, i, current),
+        6 => in_if(words, i, current),
+        7 | 9 => in_lambda_or_rec(words, i, x, current),
+        8 => in_let(words, i, x, current),
         _ => Met::Elsewhere,
     }
 }
@@ -393,7 +412,7 @@ fn lookup(words: &[u32], x: u32, k: u32) -> Bound
         at -= 4;
         if mentions(words, at, current) {
             let p = (at / 4) as u32;
-            let met = meet_at(words, p, x, current);
+            let met = meet_at(words, at, x, current);
             match met {
                 Met::Binding => {
                     return Bound::At(p);

@@ -3,7 +3,7 @@
 use mathlib.Core.Path.{sym, _∙_, ap}
 use native.Mathlib.Omega.{arith}
 use Rattle.table.specs.Lookup.{Walking, walk-starts, walk-passes, walk-climbs, walk-finds, walk-ends}
-use Rattle.table.specs.NodeLaws.{passed}
+use Rattle.table.specs.NodeLaws.{met-from}
 use Rattle.table.specs.Reading.{binderAnswer}
 use Rattle.table.specs.Node.{nodeAt}
 use Rattle.table.proofs.lookup.Statement.{statement}
@@ -38,7 +38,8 @@ enum-told c = c .match .keys1
 
 returns : tie.Need-returns Inv-loop μ-loop
 returns c =
-    ap binderAnswer (sym (walk-finds (c .before .before .before .before .before .before .loop .inv) (c .before .before .before .before .before .loop-test .taken) (sym (c .before .before .meet-at .ensures) ∙ c .enum-told .given .1)))
+    let w = c .before .before .before .before .before .before .loop .inv in
+    ap binderAnswer (sym (walk-finds w (c .before .before .before .before .before .loop-test .taken) (met-from _ _ _ _ (omega (arith, w .whole)) (sym (c .before .before .meet-at .ensures) ∙ c .enum-told .given .1))))
 
 enum-told-2 : tie.Need-enum-told-2 Inv-loop μ-loop
 enum-told-2 c = c .match .keys2
@@ -48,7 +49,8 @@ loop-less c = omega arith
 
 loop-again : tie.Need-loop-again Inv-loop μ-loop
 loop-again c =
-    walk-climbs (c .before .before .before .before .before .before .loop .inv) (c .before .before .before .before .before .loop-test .taken) (sym (c .before .before .meet-at .ensures) ∙ c .enum-told2 .given .1)
+    let w = c .before .before .before .before .before .before .loop .inv in
+    walk-climbs w (c .before .before .before .before .before .loop-test .taken) (met-from _ _ _ _ (omega (arith, w .whole)) (sym (c .before .before .meet-at .ensures) ∙ c .enum-told2 .given .1))
 
 enum-told-3 : tie.Need-enum-told-3 Inv-loop μ-loop
 enum-told-3 c = c .match .keys3
@@ -58,7 +60,8 @@ loop-less-2 c = omega arith
 
 loop-again-2 : tie.Need-loop-again-2 Inv-loop μ-loop
 loop-again-2 c =
-    walk-passes (c .before .before .before .before .before .before .loop .inv) (c .before .before .before .before .before .loop-test .taken) (sym (c .before .before .meet-at .ensures) ∙ c .enum-told3 .given .1)
+    let w = c .before .before .before .before .before .before .loop .inv in
+    walk-passes w (c .before .before .before .before .before .loop-test .taken) (met-from _ _ _ _ (omega (arith, w .whole)) (sym (c .before .before .meet-at .ensures) ∙ c .enum-told3 .given .1))
 
 loop-less-3 : tie.Need-loop-less-3 Inv-loop μ-loop
 loop-less-3 c = omega arith
@@ -66,7 +69,7 @@ loop-less-3 c = omega arith
 loop-again-3 : tie.Need-loop-again-3 Inv-loop μ-loop
 loop-again-3 c =
     let w = c .before .before .before .loop .inv in
-    walk-passes w (c .before .before .loop-test .taken) (passed (c .before .mentions .ensures (c .if1 .left)) (omega (arith, w .whole)) _)
+    walk-passes w (c .before .before .loop-test .taken) (met-from _ _ _ _ (omega (arith, w .whole)) (c .before .mentions .ensures (c .if1 .left) .elsewhere _))
 
 returns-2 : tie.Need-returns-2 Inv-loop μ-loop
 returns-2 c = ap binderAnswer (sym (walk-ends (c .before .loop .inv) (c .loop-test .left)))
