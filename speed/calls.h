@@ -1,4 +1,4 @@
-/* The calls that are counted, in Rattle (entries.rt) and in C (infer.c, machine.c). Each answers its code in the low 32 bits, and its
+/* The calls that are counted, in Rattle (entries.rattle) and in C (infer.c, machine.c). Each answers its code in the low 32 bits, and its
    place, payload or count above. */
 #include <stddef.h>
 #include <stdint.h>
