@@ -12,7 +12,7 @@ page = open("docs/PROMISES.md", encoding="utf-8").read()
 edits = {os.path.basename(path)[:-len(".edit")] for path in glob.glob("crates/*/must-fail/*.edit")}
 missing, names, cited = [], 0, set()
 
-missing += ["no file %s" % path for path in re.findall(r"`(crates/[^`]+)`", page) if not os.path.exists(path)]
+missing += ["no file %s" % path for path in re.findall(r"`((?:crates|tests)/[^`]+)`", page) if not os.path.exists(path)]
 for path, tail in re.findall(r"`(crates/[^`]+)`: ((?:`[^`]+`(?:, )?)+)", page):
     if not os.path.exists(path):
         continue

@@ -9,3 +9,4 @@ pub mod TypeBytes
 pub mod EntriesOnce
 pub mod Parts
 pub mod EnoughWork
+pub mod Loaded

@@ -4,17 +4,16 @@ use mathlib.Core.Path.{_≡_, refl}
 use mathlib.Core.List.{List}
 use native.Mathlib.Omega.{arith}
 use lib.ListN.{length}
-use Rattle.language.specs.Integers.{division-by-zero, overflow}
 use Rattle.table.specs.Refusals.{checkOf}
 use Rattle.table.specs.declared.Verdict.{Verdict}
 use Rattle.table.specs.declared.Verdict.the-variants.{Nodes as Accepted, Refused as Turned}
-use Rattle.semantics.specs.Limits.{fuel-limit, binding-limit, frame-limit}
-use Rattle.semantics.specs.Answer as Defined
-use Rattle.semantics.specs.Answer.{integer-answer, boolean-answer, unit-answer, function-answer, exception-answer, stuck-answer, limit-answer, RunAnswer, runTable}
+use Rattle.semantics.specs.Answer.{Answer, RunAnswer, runTable}
+use Rattle.semantics.specs.TableRuns.{answers-10-to-19}
 use Rattle.inference.specs.Inference.{After, Infers, codeOf as inferredCode, placeOf, turned, work-short, no-type, out-short, typed}
 use Rattle.inference.specs.InferenceOnce.{true-of-refusal-code}
 use Rattle.machine.specs.Answers.{asAnswer, asRan, codeOf, payloadOf}
 use Rattle.machine.specs.Runs.{capacityOf, RunIs, runAfter}
+use Rattle.machine.specs.SameNumbers.{same-numbers}
 use Rattle.machine.specs.declared.Ran.{Ran}
 use Rattle.host.specs.Entries.{packed, InfersTo, RunsTo}
 
@@ -38,17 +37,8 @@ inferred-code-small (no-type v enough untyped is) = rw is (omega arith)
 inferred-code-small (out-short v enough p short is) = rw is (omega arith)
 inferred-code-small (typed v enough p fits is) = rw is (omega arith)
 
-answer-code-small : (x : Defined.Answer) → codeOf (asAnswer x) < 256
-answer-code-small (integer-answer n) = omega arith
-answer-code-small (boolean-answer b) = omega arith
-answer-code-small unit-answer = omega arith
-answer-code-small function-answer = omega arith
-answer-code-small (exception-answer division-by-zero) = omega arith
-answer-code-small (exception-answer overflow) = omega arith
-answer-code-small (stuck-answer k) = omega arith
-answer-code-small (limit-answer fuel-limit) = omega arith
-answer-code-small (limit-answer binding-limit) = omega arith
-answer-code-small (limit-answer frame-limit) = omega arith
+answer-code-small : (a : Answer) → codeOf (asAnswer a) < 256
+answer-code-small a = omega (arith, same-numbers a .0, answers-10-to-19 a .1)
 
 run-code-small : {words bindings frames bindings′ frames′ : List ℕ} {fuel : ℕ} {ran : Ran} → RunIs words fuel bindings frames bindings′ frames′ ran → codeOf (ran .answer) < 256
 run-code-small {words} {bindings} {frames} {fuel = fuel} x = rw (x .answer) (go (runTable words (record { fuel = fuel; bindings = capacityOf (length bindings); frames = capacityOf (length frames) })) (checkOf words) refl)

@@ -20,3 +20,4 @@ pub mod RunLaws
 pub mod Clearing
 pub mod RunCall
 pub mod SameNumbers
+pub mod NeverStuck
