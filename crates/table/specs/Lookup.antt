@@ -11,8 +11,8 @@ use Rattle.table.specs.Walk.{fieldHolding, climbFrom, atParent}
 use Rattle.table.specs.Scope.{bindsIn, enter, isNamed, firstNamed}
 use Rattle.table.specs.Refusals.{isSome}
 use Rattle.table.specs.Reading.{metAs, metIn, met, foundBelow, binderAnswer, isNowhere}
-use Rattle.table.specs.declared.Met.{Met}
-use Rattle.table.specs.declared.Met.the-variants.{Elsewhere, Above, Binding}
+use Rattle.table.specs.declared.binders.Met.{Met}
+use Rattle.table.specs.declared.binders.Met.the-variants.{Elsewhere, Above, Binding}
 
 module _ (nd : Nodes) (x : Name) where
   -- What the walk from k finds, by how it meets node p.

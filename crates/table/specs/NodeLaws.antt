@@ -14,8 +14,8 @@ use Rattle.table.specs.Scope.{bindsIn, isNamed, nameOf}
 use Rattle.table.specs.Refusals.{once, timesIn}
 use Rattle.table.specs.Reading.{wordsAt, nodeIn, childrenIn, nodeFrom, metIn, met, aboveIf, bindingIf, letMet}
 use Rattle.table.specs.declared.NodeWords.{NodeWords}
-use Rattle.table.specs.declared.Met.{Met}
-use Rattle.table.specs.declared.Met.the-variants.{Elsewhere, Above}
+use Rattle.table.specs.declared.binders.Met.{Met}
+use Rattle.table.specs.declared.binders.Met.the-variants.{Elsewhere, Above}
 
 -- ---- Nodes by their kind
 

@@ -10,8 +10,8 @@ use Rattle.table.specs.Walk.{fieldHolding, climbFrom}
 use Rattle.table.specs.Scope.{bindsIn, enter, isNamed, firstNamed, binderOf}
 use Rattle.table.specs.Refusals.{countOf, once, timesBelow, isSome}
 use Rattle.table.specs.declared.NodeWords.{NodeWords}
-use Rattle.table.specs.declared.Met.{Met}
-use Rattle.table.specs.declared.Met.the-variants.{Elsewhere, Above, Binding}
+use Rattle.table.specs.declared.binders.Met.{Met}
+use Rattle.table.specs.declared.binders.Met.the-variants.{Elsewhere, Above, Binding}
 use Rattle.table.specs.declared.Bound.{Bound}
 use Rattle.table.specs.declared.Bound.the-variants.{At, Nowhere}
 

@@ -1,0 +1,57 @@
+-- `table::binders::meet_at` meets its contract: an arm for each kind with children, and a leaf is no parent.
+use mathlib.Core.Path.{refl}
+use borrow.Author.Needs.{needs}
+use Rattle.table.specs.NodeLaws.{leaf, leaf-is-no-parent, lambda-or-rec-met, application-met, if-met, let-met}
+use Rattle.table.proofs.binders.meet_at.Statement.{statement}
+use Rattle.table.proofs.binders.meet_at.Tie as tie
+
+mul-kind : tie.Need-mul-kind
+mul-kind c = search needs
+
+shared-slice-read-kind : tie.Need-shared-slice-read-kind
+shared-slice-read-kind c = search needs
+
+in-application-requires : tie.Need-in-application-requires
+in-application-requires c κs = search needs
+
+in-if-requires : tie.Need-in-if-requires
+in-if-requires c κs = search needs
+
+in-lambda-or-rec-requires : tie.Need-in-lambda-or-rec-requires
+in-lambda-or-rec-requires c κs = search needs
+
+in-let-requires : tie.Need-in-let-requires
+in-let-requires c κs = search needs
+
+returns : tie.Need-returns
+returns c = rw (application-met _ _ _ _ _ _ (c .before .match .keys1)) (c .in-application .ensures)
+
+returns-2 : tie.Need-returns-2
+returns-2 c = rw (if-met _ _ _ _ _ _ (c .before .match .keys2)) (c .in-if .ensures)
+
+returns-3 : tie.Need-returns-3
+returns-3 c = rw (lambda-or-rec-met _ _ _ _ _ _ (c .before .match .keys3)) (c .in-lambda-or-rec .ensures)
+
+returns-4 : tie.Need-returns-4
+returns-4 c = rw (let-met _ _ _ _ _ _ (c .before .match .keys4)) (c .in-let .ensures)
+
+returns-5 : tie.Need-returns-5
+returns-5 c =
+    let r = c .match .rest in
+    rw (leaf-is-no-parent (leaf _ _ _ _ (r .0 .0 .0 .1) (r .0 .0 .1) (r .0 .1) (r .1)) _ _) refl
+
+pub meet-at-spec : {M : Type 1} → statement M
+meet-at-spec =
+    tie.close
+    (tie.spec
+    mul-kind
+    shared-slice-read-kind
+    in-application-requires
+    in-if-requires
+    in-lambda-or-rec-requires
+    in-let-requires
+    returns
+    returns-2
+    returns-3
+    returns-4
+    returns-5)
