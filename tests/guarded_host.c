@@ -1,6 +1,7 @@
 /* A host in C that notices one stray read or write. The table lies in memory that the entries can read only, `out` in memory of its own,
    and a page that nothing may touch is before and behind each. Every case is called twice: with both slices at the start of their
-   pages, and with both at the end. The calls are made on a thread with the stack that the header asks for.
+   pages, and with both at the end. The calls are made on a thread with the stack that the header asks for, and OWN_STACK
+   bytes for the host itself.
 
    Standard input: for each case the numbers table length, out length, fuel and a number for the bytes that `out` holds before, little-
    endian, then the table's bytes. A line for each case: the numbers of iltgovruz_infer and iltgovruz_run, and on code 0 the type's
