@@ -138,7 +138,7 @@ def chosen():
              b"2 +1 0 0", b"2 1 0 0 x", b"2 1 0 0x0", b"2 1.0 0 0", b"2,1,0,0", b"2 1 0 \xd9\xa0", b"0 " * 2048, b"0 " * 2049, b"0 " * 2048 + b"x"]
     texts += [bytes([byte]).join([b"2", b"1", b"0", b"0"]) for byte in range(256)]
     for text in texts:
-        for piece in (1, 3, 4096, 2 ** 31) if len(text) < 10 ** 6 else (1000, 4096, 2 ** 31):
+        for piece in 1, 3, 4096, 2 ** 31:
             yield Case(text, piece, packed(one.words), 256, FUEL, one)
 
 
@@ -235,7 +235,7 @@ def main():
         infer, run = map(int, entry.split(" ")[:2])
         types[infer & 255] += 1
         runs[run & 255] += 1
-    few = count // 2000
+    few = count // 1000
     hardly = [code for code in (0, 1, 2, 3, 4, 6, 7) if types[code] < few] + [code for code in range(10, 20) if runs[code] < few]
     if hardly or inputs < few:
         sys.exit("hardly met: %s of %s, %s; %d inputs without words" % (hardly, types, runs, inputs))
