@@ -6,11 +6,11 @@ use mathlib.Core.List.{List, [], _∷_}
 use lib.ListN.{length, take}
 use Rattle.language.specs.Integers.{meaning}
 use Rattle.language.specs.WrittenForm.{occurs, appearing, placeIn, spell, wordsOf}
-use Rattle.lent.specs.Zeroing.{zeros}
+use Rattle.lent.specs.Cleared.{zeros}
 use Rattle.table.specs.Node.{nodeOf, nodeAt}
 use Rattle.table.specs.Refusals.{countOf, fitsRule, timesBelow, firstFrom, checkOf}
 use Rattle.semantics.specs.Limits.{runFrom}
-use Rattle.semantics.specs.Machine.{lookUp}
+use Rattle.semantics.specs.Machine.{newestBinding}
 use Rattle.semantics.specs.Answer.{runTable}
 use Rattle.machine.specs.Answers as Run
 use Rattle.machine.specs.Runs.{capacityOf, ranOf, runAfter, RunIs}
@@ -85,5 +85,5 @@ lineOf words (run fuel bindings frames) = runLine (runAfter (checkOf words) (ran
 
 -- To unfold it is to unfold all that it computes with.
 unfoldable pub computed : Row → List ℕ
-unfolding textbook checkOf fitsRule timesBelow firstFrom inferred nodeAt nodeOf wordsOf spell appearing placeIn occurs runTable runFrom lookUp meaning
+unfolding textbook checkOf fitsRule timesBelow firstFrom inferred nodeAt nodeOf wordsOf spell appearing placeIn occurs runTable runFrom newestBinding meaning
 computed row = asFar (row .stated) (lineOf (row .table) (row .call))

@@ -5,10 +5,10 @@ use mathlib.Core.List.{List, [], _∷_, map}
 use native.Mathlib.Omega.{arith}
 use lib.ListN.{length, take, drop, length-replicate}
 use lib.Seq.{take-append-seam}
-use Rattle.lent.specs.Zeroing.{zeros}
+use Rattle.lent.specs.Cleared.{zeros}
 use Rattle.table.specs.Refusals.{countOf, checkOf}
 use Rattle.table.specs.Accepted.{accepted-is-checked, count-is}
-use Rattle.table.specs.declared.Verdict.the-variants.{Nodes as Accepted}
+use Rattle.table.specs.declared.Verdict.the-variants.{Accepted}
 use Rattle.inference.specs.Inference.{workFor, withType, After, Infers, turned, work-short, no-type, out-short, typed}
 use Rattle.inference.specs.Textbook.{infers-textbook}
 use Rattle.bench.specs.Bench.{Call, inference, run, Row, typeLine, asFar, InferenceGives, CallGives, Holds, Each, lineOf, computed}

@@ -7,7 +7,7 @@ use Rattle.language.specs.Ty.{Ty}
 use Rattle.language.specs.Environment.{empty}
 use Rattle.language.specs.Typing.{Has}
 use Rattle.language.specs.Principal.{Principal}
-use Rattle.language.specs.Unification.{Answer, solution, unsolvable, Right, unify}
+use Rattle.language.specs.Unification.{Unified, solution, unsolvable, Right, unify}
 use Rattle.language.specs.UnificationCorrect.{unify-right}
 use Rattle.table.specs.Node.{Nodes}
 use Rattle.table.specs.Walk.{climbFrom}
@@ -18,7 +18,7 @@ use Rattle.equations.specs.Equations.{nodeVar, equationsBelow}
 use Rattle.equations.specs.TypingsSolve.{typing-is-solution}
 use Rattle.equations.specs.TypedExactlySolvable.{most-general-is-principal}
 
-abbrev pub rootType : Answer → Option Ty
+abbrev pub rootType : Unified → Option Ty
 rootType (solution s) = some (s (nodeVar 0))
 rootType unsolvable = none
 
@@ -36,6 +36,6 @@ pub inferred-right : {nd : Nodes} {n : ℕ} → Tree nd n → RightType (expAt n
 unfolding inferred
 inferred-right {nd} {n} t = go (unify (equationsBelow nd n)) (unify-right (equationsBelow nd n))
   where
-    go : (a : Answer) → Right (equationsBelow nd n) a → RightType (expAt nd n 0) (rootType a)
+    go : (a : Unified) → Right (equationsBelow nd n) a → RightType (expAt nd n 0) (rootType a)
     go (solution s) g = most-general-is-principal t g
     go unsolvable unsolved = λ τ d. let (s, h, e) = typing-is-solution t d in unsolved s h

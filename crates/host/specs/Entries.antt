@@ -2,10 +2,11 @@
 use Prim.Native.Nat.{ℕ, _+_, _*_, _/_, _%_}
 use mathlib.Core.Path.{_≡_}
 use mathlib.Core.Logic.{_≢_}
+use mathlib.Core.Bool.{cond}
 use mathlib.Core.List.{List, _++_}
+use lib.Dec.{ltb}
 use lib.ListN.{length, take, drop}
-use Rattle.lent.specs.Zeroing.{zeros}
-use Rattle.lent.specs.Smaller.{smaller}
+use Rattle.lent.specs.Cleared.{zeros}
 use Rattle.lent.specs.Bytes.{fromBytes, toBytes}
 use Rattle.inference.specs.Inference.{After, Infers, codeOf as inferredCode, placeOf}
 use Rattle.inference.specs.declared.Inferred.{Inferred}
@@ -25,9 +26,9 @@ pub data Entry (table : List ℕ) (CodeOne Answered : Type 0) : Type 0 where
 
 -- ---- The inference entry
 
--- Only whole words of the out bytes count, the first 1,024 at most.
-abbrev pub outWords : List ℕ → ℕ
-outWords out = smaller (length out / 4) 1024
+-- Of so many out bytes only whole words count, the first 1,024 at most.
+abbrev pub outWords : ℕ → ℕ
+outWords bytes = cond (ltb (bytes / 4) 1024) (bytes / 4) 1024
 
 -- Out is written on code 0 only: the type's words first, all later bytes untouched.
 abbrev pub outAfter : Inferred → List ℕ → List ℕ → List ℕ
@@ -43,7 +44,7 @@ pub record InfersTo (words work typeWords out out′ : List ℕ) (r : ℕ) : Typ
 
 -- Its work is of the program's size.
 abbrev pub InfersOn : List ℕ → List ℕ → List ℕ → ℕ → Type 0
-InfersOn words out out′ r = InfersTo words (zeros 12304) (zeros (outWords out)) out out′ r
+InfersOn words out out′ r = InfersTo words (zeros 12304) (zeros (outWords (length out))) out out′ r
 
 -- For every table and out bytes: the number r, and the bytes out′ in the place of out.
 abbrev pub InferEntry : List ℕ → List ℕ → List ℕ → ℕ → Type 0

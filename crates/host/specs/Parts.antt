@@ -6,8 +6,8 @@ use native.Mathlib.Omega.{arith}
 use lib.ListN.{length}
 use Rattle.table.specs.Refusals.{checkOf}
 use Rattle.table.specs.declared.Verdict.{Verdict}
-use Rattle.table.specs.declared.Verdict.the-variants.{Nodes as Accepted, Refused as Turned}
-use Rattle.semantics.specs.Answer.{Answer, RunAnswer, runTable}
+use Rattle.table.specs.declared.Verdict.the-variants.{Accepted, Refused as Turned}
+use Rattle.semantics.specs.Answer.{DefinedAnswer, RunAnswer, runTable}
 use Rattle.semantics.specs.TableRuns.{answers-10-to-19}
 use Rattle.inference.specs.Inference.{After, Infers, codeOf as inferredCode, placeOf, turned, work-short, no-type, out-short, typed}
 use Rattle.inference.specs.InferenceOnce.{true-of-refusal-code}
@@ -37,7 +37,7 @@ inferred-code-small (no-type v enough untyped is) = rw is (omega arith)
 inferred-code-small (out-short v enough p short is) = rw is (omega arith)
 inferred-code-small (typed v enough p fits is) = rw is (omega arith)
 
-answer-code-small : (a : Answer) → codeOf (asAnswer a) < 256
+answer-code-small : (a : DefinedAnswer) → codeOf (asAnswer a) < 256
 answer-code-small a = omega (arith, same-numbers a .0, answers-10-to-19 a .1)
 
 run-code-small : {words bindings frames bindings′ frames′ : List ℕ} {fuel : ℕ} {ran : Ran} → RunIs words fuel bindings frames bindings′ frames′ ran → codeOf (ran .answer) < 256

@@ -9,7 +9,7 @@ use lib.Dec.{eqb, ltb}
 use lib.ListN.{length, take, drop, length-replicate}
 use lib.Seq.{take-at}
 use borrow.Author.Tests.{lt-ltb, eqb-true, eqb-false, ltb-true, ltb-false}
-use Rattle.lent.specs.Zeroing.{zeros}
+use Rattle.lent.specs.Cleared.{zeros}
 use Rattle.lent.specs.Bytes.{fromBytes, overwrite}
 use Rattle.lent.specs.Overwriting.{overwrite-length, overwrite-fits}
 use Rattle.lent.specs.ByteLaws.{length-fromBytes}

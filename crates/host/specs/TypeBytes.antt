@@ -5,7 +5,7 @@ use mathlib.Core.List.{List, _∷_, _++_}
 use native.Mathlib.Omega.{arith}
 use lib.ListN.{length, take, drop, length-replicate}
 use lib.Seq.{length-take-le}
-use Rattle.lent.specs.Zeroing.{zeros}
+use Rattle.lent.specs.Cleared.{zeros}
 use Rattle.lent.specs.Smaller.{smaller-first, smaller-second}
 use Rattle.lent.specs.Bytes.{toBytes, overwrite}
 use Rattle.lent.specs.Overwriting.{overwrite-fits}
@@ -24,7 +24,7 @@ take-zeros zero m h = refl
 take-zeros (suc n) zero h = absurd (omega arith)
 take-zeros (suc n) (suc m) h = ap {B = List ℕ} (λ r. 0 ∷ r) (take-zeros n m (omega arith))
 
-module _ {room : ℕ} (out : List ℕ) (is : room ≡ outWords out) where
+module _ {room : ℕ} (out : List ℕ) (is : room ≡ outWords (length out)) where
   pub room-few : room ≤ 1024
   room-few = rw is (smaller-second (length out / 4) 1024)
 

@@ -1,7 +1,7 @@
 // The two entries for a host in C: tables and types as bytes, words little-endian, and one number of 64 bits for each answer.
 use inference::Inferred;
 ghost use mathlib.Core.Path.{_≡_};
-ghost use Rattle.host.specs.Entries.{packed, InfersTo, InfersOn, InferEntry, RunsTo, RunEntry};
+ghost use Rattle.host.specs.Entries.{packed, outWords, InfersTo, InfersOn, InferEntry, RunsTo, RunEntry};
 ghost use Rattle.host.specs.Rooms.{wrongLength, OutRoom};
 
 // A code in the low 8 bits, a place or payload in the high 32.
@@ -37,13 +37,21 @@ fn infer_on(words: &[u32], work: &mut [u32], types: &mut [u32], out: &mut [u8]) 
     }
 }
 
+// How many words of a type have room in so many bytes: whole ones only, 1,024 at most.
+fn out_words(bytes: usize) -> usize
+    ensures { λ r. ⌜ r ≡ outWords bytes ⌝ }
+{
+    let n = bytes / 4;
+    if n < 1024 { n } else { 1024 }
+}
+
 // The same in slices of its own: work for 512 nodes, and as many words of a type as `out` has, 1,024 at most.
 fn infer_words(words: &[u32], out: &mut [u8]) -> u64
     ensures { λ r. ⌜ InfersOn (now (words .entry)) (now (out .entry)) (now (out .exit)) r ⌝ }
 {
     let mut work = [0u32; 12304];
     let mut types = [0u32; 1024];
-    let room = lent::smaller(out.len() / 4, 1024);
+    let room = out_words(out.len());
     infer_on(words, &mut work, &mut types[..room], out)
 }
 

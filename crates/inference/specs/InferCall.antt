@@ -4,13 +4,13 @@ use mathlib.Core.Path.{_≡_, refl, sym, _∙_, ap, subst}
 use mathlib.Core.List.{List, _++_}
 use native.Mathlib.Omega.{arith}
 use lib.ListN.{length, take, drop}
-use Rattle.lent.specs.Zeroing.{zeros}
+use Rattle.lent.specs.Cleared.{zeros}
 use Rattle.lent.specs.Prefix.{length-lent, length-back, back-cleared}
 use Rattle.table.specs.Refusals.{countOf, checkOf}
 use Rattle.table.specs.Tree.{Checked}
 use Rattle.table.specs.Accepted.{accepted-is-checked, count-is}
 use Rattle.table.specs.declared.Verdict.{Verdict}
-use Rattle.table.specs.declared.Verdict.the-variants.{Nodes as Accepted, Refused as Turned}
+use Rattle.table.specs.declared.Verdict.the-variants.{Accepted, Refused as Turned}
 use Rattle.inference.specs.TableCells.{TableRoom}
 use Rattle.inference.specs.Inference.{workFor, leaves, Infers, turned, InfersWithWork}
 use Rattle.inference.specs.declared.Inferred.{Inferred}

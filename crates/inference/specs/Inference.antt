@@ -2,7 +2,8 @@
 use Prim.Native.Nat.{ℕ, _+_, _*_, _≤_, _<_}
 use mathlib.Core.Path.{_≡_}
 use mathlib.Core.List.{List, _++_}
-use lib.ListN.{length, drop, replicate}
+use lib.ListN.{length, drop}
+use Rattle.lent.specs.Cleared.{cleared}
 use Rattle.language.specs.Ty.{Ty}
 use Rattle.language.specs.Environment.{empty}
 use Rattle.language.specs.Typing.{Has}
@@ -10,7 +11,7 @@ use Rattle.language.specs.Principal.{Principal}
 use Rattle.language.specs.WrittenForm.{wordsOf}
 use Rattle.table.specs.Refusals.{checkOf}
 use Rattle.table.specs.ExpressionOf.{expOf}
-use Rattle.table.specs.declared.Verdict.the-variants.{Nodes as Accepted, Refused as Turned}
+use Rattle.table.specs.declared.Verdict.the-variants.{Accepted, Refused as Turned}
 use Rattle.inference.specs.declared.Inferred.{Inferred}
 use Rattle.inference.specs.declared.Inferred.the-variants.{Typed, Refused}
 
@@ -31,8 +32,8 @@ abbrev pub workFor : ℕ → ℕ
 workFor nodes = 24 * nodes + 16
 
 -- The first 24 × nodes + 16 words are zero and the rest is untouched.
-abbrev pub cleared : ℕ → List ℕ → List ℕ
-cleared nodes work = replicate (workFor nodes) 0 ++ drop (workFor nodes) work
+abbrev pub workCleared : ℕ → List ℕ → List ℕ
+workCleared nodes work = cleared (workFor nodes) work
 
 -- The type first, all later words untouched.
 abbrev pub withType : List ℕ → List ℕ → List ℕ
@@ -56,14 +57,14 @@ pub data Infers (words work out : List ℕ) (a : After) : Type 0 where
   work-short : {n : ℕ} → checkOf words ≡ Accepted n → length work < workFor n → a ≡ leaves (Refused 5 0) work out → Infers words work out a
   -- 6: no typing exists.
   no-type : {n : ℕ} → checkOf words ≡ Accepted n → workFor n ≤ length work → ((τ : Ty) → ¬ Has empty (expOf words) τ) →
-      a ≡ leaves (Refused 6 0) (cleared n work) out → Infers words work out a
+      a ≡ leaves (Refused 6 0) (workCleared n work) out → Infers words work out a
   -- 7: the type has more words than the out slice.
   out-short : {n : ℕ} {τ : Ty} → checkOf words ≡ Accepted n → workFor n ≤ length work → Principal empty (expOf words) τ →
-      length out < length (wordsOf τ) → a ≡ leaves (Refused 7 0) (cleared n work) out → Infers words work out a
+      length out < length (wordsOf τ) → a ≡ leaves (Refused 7 0) (workCleared n work) out → Infers words work out a
   -- 0: the most general type, written.
   typed : {n : ℕ} {τ : Ty} → checkOf words ≡ Accepted n → workFor n ≤ length work → Principal empty (expOf words) τ →
-      length (wordsOf τ) ≤ length out → a ≡ leaves (Typed (length (wordsOf τ))) (cleared n work) (withType (wordsOf τ) out) → Infers words work out a
+      length (wordsOf τ) ≤ length out → a ≡ leaves (Typed (length (wordsOf τ))) (workCleared n work) (withType (wordsOf τ) out) → Infers words work out a
 
 -- The answer to a table of n nodes, whatever work slice of enough words is lent.
 pub record InfersWithWork (words : List ℕ) (n : ℕ) (out : List ℕ) (answer : Inferred) (out′ : List ℕ) : Type 0 where
-  pub given : (work : List ℕ) → workFor n ≤ length work → Infers words work out (leaves answer (cleared n work) out′)
+  pub given : (work : List ℕ) → workFor n ≤ length work → Infers words work out (leaves answer (workCleared n work) out′)

@@ -16,7 +16,7 @@ use Rattle.table.specs.Node.{nodeAt}
 use Rattle.table.specs.Refusals.{miscount, countOf, fits, misplaced, unbound, firstFrom, refuseAt, checkOf}
 use Rattle.table.specs.ExpressionOf.{expOf}
 use Rattle.table.specs.declared.Verdict.{Verdict}
-use Rattle.table.specs.declared.Verdict.the-variants.{Nodes as Accepted, Refused as Turned}
+use Rattle.table.specs.declared.Verdict.the-variants.{Accepted, Refused as Turned}
 use Rattle.inference.specs.Inference.{codeOf, workFor, After, Infers, turned, work-short, no-type, out-short, typed}
 use Rattle.inference.specs.Textbook.{infers-textbook}
 

@@ -15,10 +15,10 @@ use Rattle.inference.specs.Layout.{cellAt, pairAt, storeOf, cellsIn, Sou
 use Rattle.inference.specs.StoreLaws.{store-is, store-put, sound-put, tag-of, base-says, above-one, says-free, says-arrow}
 use Rattle.inference.specs.Count.{count-changed}
 use Rattle.inference.specs.Paths.{way-inside}
-use Rattle.inference.specs.Solving.{isLinkIn, linksIn, TwoRoots, Shortened, Joined, MetAs, Meeting}
+use Rattle.inference.specs.Solving.{isLinkIn, linksIn, TwoRoots, Shortened, Joined, EncounterIs, Meeting}
 use Rattle.inference.specs.declared.cells.TypeCell.{TypeCell}
-use Rattle.inference.specs.declared.solve.Met.{Met}
-use Rattle.inference.specs.declared.solve.Met.the-variants.{Clash, Done, Parts}
+use Rattle.inference.specs.declared.solve.Encounter.{Encounter}
+use Rattle.inference.specs.declared.solve.Encounter.the-variants.{Clash, Done, Parts}
 
 -- ---- Links are counted
 
@@ -139,17 +139,17 @@ module _ {before : List ℕ} {i j : ℕ} {low high : TypeCell} (two : TwoRoots b
 
 -- ---- Cells meet by way of their roots
 
-pub meeting-is : {before after : List ℕ} {i j : ℕ} {met met′ : Met} → Meeting before after i j met → met ≡ met′ → Meeting before after i j met′
+pub meeting-is : {before after : List ℕ} {i j : ℕ} {met met′ : Encounter} → Meeting before after i j met → met ≡ met′ → Meeting before after i j met′
 meeting-is {before} {after} {i} {j} m e = subst (Meeting before after i j) e m
 
 -- Who is named first plays no part.
-pub meeting-turned : {before after : List ℕ} {i j : ℕ} (met : Met) → Meeting before after j i met → Meeting before after i j met
+pub meeting-turned : {before after : List ℕ} {i j : ℕ} (met : Encounter) → Meeting before after j i met → Meeting before after i j met
 meeting-turned {before} {after} {i} {j} met m = record { same-length = m .same-length; says = go met (m .says) }
   where
     turned : {rest : Subst → Type 0} → Joined before after j i rest → Joined before after i j rest
     turned w = record { sound = w .sound; keeps = λ ρ. (λ (h, e). w .keeps ρ .0 (h, sym e), λ h. let (h′, e) = w .keeps ρ .1 h in (h′, sym e)); pairs = w .pairs }
 
-    go : (met : Met) → MetAs before after j i met → MetAs before after i j met
+    go : (met : Encounter) → EncounterIs before after j i met → EncounterIs before after i j met
     go Clash none = λ ρ h e. none ρ h (sym e)
     go Done (w, more) = (turned w, more)
     go (Parts l l′ r r′) (w, more, inside) = (turned w, more, inside)
@@ -184,7 +184,7 @@ module _ {first second third : List ℕ} {i j p q : ℕ} (to-p : Shortened first
         says = (record { sound = to-q .sound; keeps = λ ρ. (λ h. (roots-equal ρ .0 h .0, tt), λ (h, u). roots-equal ρ .1 (h, ap ρ e)); pairs = pairs-as-before }, omega arith);
       }
 
-  pub roots-meet : {after : List ℕ} (met : Met) → Meeting third after p q met → Meeting first after i j met
+  pub roots-meet : {after : List ℕ} (met : Encounter) → Meeting third after p q met → Meeting first after i j met
   roots-meet {after} met m = record { same-length = m .same-length ∙ lengths; says = go met (m .says) }
     where
       further : {rest : Subst → Type 0} → Joined third after p q rest → Joined first after i j rest
@@ -195,7 +195,7 @@ module _ {first second third : List ℕ} {i j p q : ℕ} (to-p : Shortened first
             pairs = λ k. w .pairs k ∙ pairs-as-before k;
           }
 
-      go : (met : Met) → MetAs third after p q met → MetAs first after i j met
+      go : (met : Encounter) → EncounterIs third after p q met → EncounterIs first after i j met
       go Clash none = λ ρ h e. let (h′, e′) = roots-equal ρ .0 (h, e) in none ρ h′ e′
       go Done (w, more) = (further w, rw (← links-as-before) more)
       go (Parts l l′ r r′) (w, more, inside) = (further w, rw (← links-as-before) more, inside)

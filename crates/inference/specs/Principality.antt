@@ -15,7 +15,7 @@ use Rattle.table.specs.Node.{nodeAt}
 use Rattle.table.specs.Refusals.{checkOf}
 use Rattle.table.specs.ExpressionOf.{expOf}
 use Rattle.table.specs.Accepted.{count-is}
-use Rattle.table.specs.declared.Verdict.the-variants.{Nodes as Accepted}
+use Rattle.table.specs.declared.Verdict.the-variants.{Accepted}
 use Rattle.equations.specs.Cells.{Sat, Grounds}
 use Rattle.equations.specs.Grounded.{grounded-satisfies, grounded-then-any}
 use Rattle.equations.specs.Equations.{equationsBelow}

@@ -14,7 +14,8 @@ use Rattle.language.specs.Typing.{gives, typeOf}
 use Rattle.language.specs.TypingLaws.{constants-have-no-variable}
 use Rattle.language.specs.Unification.{_≐_, Solves, none-left, also}
 use Rattle.language.specs.MostGeneral.{first-solved}
-use Rattle.table.specs.Node.{Node, Field, field-a, field-b, field-c, child, operatorAt, nodeOf, nodeAt}
+use Rattle.language.specs.Numbers.{operatorAt}
+use Rattle.table.specs.Node.{Node, Field, field-a, field-b, field-c, child, nodeOf, nodeAt}
 use Rattle.table.specs.Scope.{nameOf, binderFor, binderOf}
 use Rattle.table.specs.Refusals.{countOf}
 use Rattle.table.specs.Reading.{wordsAt, binderAnswer, binderIn}

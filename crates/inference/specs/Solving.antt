@@ -10,8 +10,8 @@ use Rattle.language.specs.Ty.{Subst}
 use Rattle.equations.specs.Cells.{Sat}
 use Rattle.inference.specs.Layout.{cellAt, pairAt, storeOf, cellsIn, Sound}
 use Rattle.inference.specs.Count.{count}
-use Rattle.inference.specs.declared.solve.Met.{Met}
-use Rattle.inference.specs.declared.solve.Met.the-variants.{Clash, Done, Parts}
+use Rattle.inference.specs.declared.solve.Encounter.{Encounter}
+use Rattle.inference.specs.declared.solve.Encounter.the-variants.{Clash, Done, Parts}
 
 -- ---- Outcomes
 
@@ -78,13 +78,13 @@ pub record Joined (before after : List ℕ) (i j : ℕ) (rest : Subst → Type 0
   pub keeps : (ρ : Subst) → (Sat ρ (storeOf before) × (ρ i ≡ ρ j)) ↔ (Sat ρ (storeOf after) × rest ρ)
   pub pairs : (k : ℕ) → pairAt after k ≡ pairAt before k
 
-abbrev pub MetAs : List ℕ → List ℕ → ℕ → ℕ → Met → Type 0
-MetAs before after i j Clash = (ρ : Subst) → Sat ρ (storeOf before) → ¬ (ρ i ≡ ρ j)
-MetAs before after i j Done = Joined before after i j (λ ρ. Unit) × (linksIn before ≤ linksIn after)
-MetAs before after i j (Parts l l′ r r′) =
+abbrev pub EncounterIs : List ℕ → List ℕ → ℕ → ℕ → Encounter → Type 0
+EncounterIs before after i j Clash = (ρ : Subst) → Sat ρ (storeOf before) → ¬ (ρ i ≡ ρ j)
+EncounterIs before after i j Done = Joined before after i j (λ ρ. Unit) × (linksIn before ≤ linksIn after)
+EncounterIs before after i j (Parts l l′ r r′) =
     Joined before after i j (λ ρ. (ρ l ≡ ρ l′) × (ρ r ≡ ρ r′)) × (linksIn after ≡ suc (linksIn before)) ×
     ((l < cellsIn after) × (l′ < cellsIn after) × (r < cellsIn after) × (r′ < cellsIn after))
 
-pub record Meeting (before after : List ℕ) (i j : ℕ) (met : Met) : Type 0 where
+pub record Meeting (before after : List ℕ) (i j : ℕ) (met : Encounter) : Type 0 where
   pub same-length : length after ≡ length before
-  pub says : MetAs before after i j met
+  pub says : EncounterIs before after i j met

@@ -17,7 +17,7 @@ use Rattle.inference.specs.Count.{count-same, count-but-0}
 use Rattle.inference.specs.Solving.{Outcome, isLinkIn, linksIn, Pending, AllEqual, PairsInside, Joined, Meeting}
 use Rattle.inference.specs.declared.cells.TypeCell.{TypeCell}
 use Rattle.inference.specs.declared.cells.Pair.{Pair}
-use Rattle.inference.specs.declared.solve.Met.the-variants.{Clash, Done, Parts}
+use Rattle.inference.specs.declared.solve.Encounter.the-variants.{Clash, Done, Parts}
 
 -- ---- Pending pairs
 

@@ -16,9 +16,9 @@ use Rattle.table.specs.Refusals.{checkOf}
 use Rattle.table.specs.ExpressionOf.{expAt, expOf}
 use Rattle.table.specs.Accepted.{accepted-is-checked, count-is}
 use Rattle.table.specs.declared.Verdict.{Verdict}
-use Rattle.table.specs.declared.Verdict.the-variants.{Nodes as Accepted, Refused as Turned}
+use Rattle.table.specs.declared.Verdict.the-variants.{Accepted, Refused as Turned}
 use Rattle.equations.specs.Inferred.{inferred, RightType, inferred-right}
-use Rattle.inference.specs.Inference.{workFor, cleared, withType, After, leaves, Infers, turned, work-short, no-type, out-short, typed}
+use Rattle.inference.specs.Inference.{workFor, workCleared, withType, After, leaves, Infers, turned, work-short, no-type, out-short, typed}
 use Rattle.inference.specs.declared.Inferred.the-variants.{Typed, Refused}
 
 module _ (words work out : List ℕ) where
@@ -26,11 +26,11 @@ module _ (words work out : List ℕ) where
 
   -- Is the out slice too short? If not, the type is written.
   abbrev outAfter : Bool → ℕ → List ℕ → After
-  outAfter true n type = leaves (Refused 7 0) (cleared n work) out
-  outAfter false n type = leaves (Typed (length type)) (cleared n work) (withType type out)
+  outAfter true n type = leaves (Refused 7 0) (workCleared n work) out
+  outAfter false n type = leaves (Typed (length type)) (workCleared n work) (withType type out)
 
   abbrev typeAfter : ℕ → Option Ty → After
-  typeAfter n none = leaves (Refused 6 0) (cleared n work) out
+  typeAfter n none = leaves (Refused 6 0) (workCleared n work) out
   typeAfter n (some τ) = outAfter (ltb (length out) (length (wordsOf τ))) n (wordsOf τ)
 
   -- Is the work slice too short? If not, the type decides.

@@ -8,7 +8,7 @@ mod write;
 use table::Verdict;
 ghost use mathlib.Core.Path.{_≡_};
 ghost use Rattle.table.specs.Refusals.{countOf, checkOf};
-ghost use Rattle.table.specs.declared.Verdict.the-variants.{Nodes as Accepted};
+ghost use Rattle.table.specs.declared.Verdict.the-variants.{Accepted};
 ghost use Rattle.inference.specs.TableCells.{TableReady, TableRoom};
 ghost use Rattle.inference.specs.Inference.{leaves, Infers, InfersWithWork};
 

@@ -14,7 +14,7 @@ ghost use Rattle.inference.specs.Solving.{Outcome, Shortened, AllEqual, 
 ghost use Rattle.equations.specs.Cells.{Fits};
 
 // What comes of two cells that are to be equal.
-pub(crate) enum Met {
+pub(crate) enum Encounter {
     // They never are.
     Clash,
     // They are now.
@@ -61,7 +61,7 @@ pub(crate) fn find(cells: &mut [u32], i: u32) -> u32
 }
 
 // Two roots meet: the greater is linked to the smaller.
-fn merge(cells: &mut [u32], i: u32, j: u32) -> Met
+fn merge(cells: &mut [u32], i: u32, j: u32) -> Encounter
     requires { ⌜ TwoRoots (now cells) i j ⌝ }
     ensures { λ met. ⌜ Meeting (now (cells .entry)) (now (cells .exit)) i j met ⌝ }
 {
@@ -71,36 +71,36 @@ fn merge(cells: &mut [u32], i: u32, j: u32) -> Met
     if low.tag == 0 {
         put(cells, i, high);
         put(cells, j, link);
-        return Met::Done;
+        return Encounter::Done;
     }
     if high.tag == 0 {
         put(cells, j, link);
-        return Met::Done;
+        return Encounter::Done;
     }
     if low.tag != high.tag {
-        return Met::Clash;
+        return Encounter::Clash;
     }
     put(cells, j, link);
     if low.tag == 5 {
-        return Met::Parts {
+        return Encounter::Parts {
             left: low.a,
             other_left: high.a,
             right: low.b,
             other_right: high.b,
         };
     }
-    Met::Done
+    Encounter::Done
 }
 
 // Two cells meet, by way of their roots.
-fn meet(cells: &mut [u32], i: u32, j: u32) -> Met
+fn meet(cells: &mut [u32], i: u32, j: u32) -> Encounter
     requires { ⌜ Sound (now cells) × (i < cellsIn (now cells)) × (j < cellsIn (now cells)) ⌝ }
     ensures { λ met. ⌜ Meeting (now (cells .entry)) (now (cells .exit)) i j met ⌝ }
 {
     let p = find(cells, i);
     let q = find(cells, j);
     if p == q {
-        return Met::Done;
+        return Encounter::Done;
     }
     if p < q {
         return merge(cells, p, q);
@@ -119,10 +119,10 @@ fn solve(cells: &mut [u32], i: u32, j: u32, pending: u32) -> bool
     loop {
         let met = meet(cells, a, b);
         match met {
-            Met::Clash => {
+            Encounter::Clash => {
                 return false;
             }
-            Met::Done => {
+            Encounter::Done => {
                 if left == 0 {
                     return true;
                 }
@@ -131,7 +131,7 @@ fn solve(cells: &mut [u32], i: u32, j: u32, pending: u32) -> bool
                 a = next.left;
                 b = next.right;
             }
-            Met::Parts {
+            Encounter::Parts {
                 left: l,
                 other_left,
                 right,

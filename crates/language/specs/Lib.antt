@@ -5,12 +5,14 @@ pub mod Promises
 -- Expressions and small steps.
 pub mod Expression
 pub mod Integers
+pub mod Numbers
 pub mod Substitution
 pub mod FinalSubstitution
 pub mod SmallStep
 pub mod Move
 -- What is true of them.
 pub mod IntegerLaws
+pub mod NumberLaws
 pub mod MoveDecides
 pub mod Determinism
 pub mod ClosedSteps

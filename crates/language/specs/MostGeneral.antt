@@ -8,7 +8,7 @@ use lib.Dec.{eqb}
 use borrow.Author.Tests.{eqb-true, eq-eqb}
 use Rattle.language.specs.Ty.{Ty, unit, bool, int, _⇒_, var, Subst, apply, compose}
 use Rattle.language.specs.TyLaws.{apply-compose, compose-assoc}
-use Rattle.language.specs.Unification.{Equation, _≐_, Solves, none-left, also, MostGeneralSolution, occurs, single, applyAll, Answer, solution, unsolvable, Right, after}
+use Rattle.language.specs.Unification.{Equation, _≐_, Solves, none-left, also, MostGeneralSolution, occurs, single, applyAll, Unified, solution, unsolvable, Right, after}
 
 pub or-false : (a b : Bool) → (a || b) ≡ false → (a ≡ false) × (b ≡ false)
 or-false true b e = (e, absurd (false≢true (sym e)))
@@ -94,6 +94,6 @@ module _ {E₁ : List Equation} {s₁ : Subst} (E₂ : List Equation) (g₁ : Mo
   }
 
   -- The same of answers: also, E₁ ++ E₂ has no solution if E₂ s₁ has none.
-  pub after-right : (a : Answer) → Right (applyAll s₁ E₂) a → Right (E₁ ++ E₂) (after s₁ a)
+  pub after-right : (a : Unified) → Right (applyAll s₁ E₂) a → Right (E₁ ++ E₂) (after s₁ a)
   after-right (solution s₂) r = composed-most-general r
   after-right unsolvable r = λ s h. let (t, e, k) = rest-solution h in r t k

@@ -8,7 +8,7 @@ use lib.IntN.{ℤ}
 use Rattle.language.specs.Expression.{Operator, Exp, Value, unit-element, boolean, integer, operator, constant, name, app, if-then-else, lambda, let-in, rec, constant-value, lambda-value, operator-value}
 use Rattle.language.specs.Integers.{Exception}
 use Rattle.language.specs.SmallStep.{Result, next, raised, Step, OP, BETA-V, APP-LEFT, APP-LEFT-EXN, APP-RIGHT, APP-RIGHT-EXN, COND-EVAL, COND-EVAL-EXN, COND-TRUE, COND-FALSE, LET-EVAL, LET-EVAL-EXN, LET-EXEC, UNFOLD, Stuck}
-use Rattle.language.specs.Move.{Move, steps, value, stuck, within, asFunction, asInteger, operated, applied, chooses, move}
+use Rattle.language.specs.Move.{Move, steps, value, stuck, within, asFunction, asInteger, combined, applied, chooses, move}
 
 -- What a move says of an expression.
 abbrev pub Decided : Exp → Move → Type 0
@@ -74,7 +74,7 @@ integer-read (lambda x e) = reads-none
 integer-read (let-in x e₁ e₂) = reads-none
 integer-read (rec x e) = reads-none
 
-operator-found : (o : Operator) {u v : Exp} {m n : Option ℤ} → Reads u m → Reads v n → Found (app (app (constant (operator o)) u) v) (operated o m n)
+operator-found : (o : Operator) {u v : Exp} {m n : Option ℤ} → Reads u m → Reads v n → Found (app (app (constant (operator o)) u) v) (combined o m n)
 operator-found o reads-integer reads-integer = OP refl
 operator-found o reads-integer reads-none = tt
 operator-found o reads-none i = tt

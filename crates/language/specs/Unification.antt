@@ -58,12 +58,12 @@ applyAll s ((τ₁ ≐ τ₂) ∷ E) = (apply s τ₁ ≐ apply s τ₂) ∷ app
 -- ---- The answer
 
 -- "als Ergebnis eine Substitution s", or "nicht lösbar"
-pub data Answer : Type 0 where
-  solution : Subst → Answer
-  unsolvable : Answer
+pub data Unified : Type 0 where
+  solution : Subst → Unified
+  unsolvable : Unified
 
 -- What a right answer is (Satz 11): a most general solution, or that there is none.
-abbrev pub Right : List Equation → Answer → Type 0
+abbrev pub Right : List Equation → Unified → Type 0
 Right E (solution s) = MostGeneralSolution E s
 Right E unsolvable = (s : Subst) → ¬ Solves s E
 
@@ -112,23 +112,23 @@ caseOf (τ₁ ⇒ τ₂) bool = clash
 caseOf (τ₁ ⇒ τ₂) int = clash
 
 -- [τ/α] ∘ s, or "nicht lösbar" if that is what the rest gives.
-abbrev pub after : Subst → Answer → Answer
+abbrev pub after : Subst → Unified → Unified
 after s₁ (solution s₂) = solution (compose s₁ s₂)
 after s₁ unsolvable = unsolvable
 
 -- The two cases of (VAR), by whether α ∈ var(τ).
-abbrev pub eliminate : Bool → ℕ → Ty → List Equation → (List Equation → Answer) → Answer
+abbrev pub eliminate : Bool → ℕ → Ty → List Equation → (List Equation → Unified) → Unified
 eliminate true α τ E unify-fewer = unsolvable
 eliminate false α τ E unify-fewer = after (single α τ) (unify-fewer (applyAll (single α τ) E))
 
 -- The rules for a first equation. `unify-shorter` and `unify-fewer` are unify on a shorter list and on one of fewer variables.
-abbrev pub byCase : Case → List Equation → (List Equation → Answer) → (List Equation → Answer) → Answer
+abbrev pub byCase : Case → List Equation → (List Equation → Unified) → (List Equation → Unified) → Unified
 byCase trivial E unify-shorter unify-fewer = unify-shorter E  -- (TRIV)
 byCase (parts e₁ e₂) E unify-shorter unify-fewer = unify-shorter (e₁ ∷ e₂ ∷ E)  -- (ARROW)
 byCase (variable α τ) E unify-shorter unify-fewer = eliminate (occurs α τ) α τ E unify-fewer  -- (VAR)
 byCase clash E unify-shorter unify-fewer = unsolvable  -- (STRUCT)
 
-abbrev pub rules : List Equation → (List Equation → Answer) → (List Equation → Answer) → Answer
+abbrev pub rules : List Equation → (List Equation → Unified) → (List Equation → Unified) → Unified
 rules [] unify-shorter unify-fewer = solution identity  -- (EMPTY)
 rules ((τ₁ ≐ τ₂) ∷ E) unify-shorter unify-fewer = byCase (caseOf τ₁ τ₂) E unify-shorter unify-fewer
 
@@ -148,13 +148,13 @@ sizeAll ((τ₁ ≐ τ₂) ∷ E) = suc (size τ₁ + size τ₂ + sizeAll E)
 
 -- unify with the two counts of the notes' proof that it ends: room for n variables, and a length below m. (VAR) takes one from n and sets m
 -- anew, (TRIV) and (ARROW) take one from m. `unify` never gets to an answer that is given for want of room.
-unfoldable pub unifyWithin : ℕ → ℕ → List Equation → Answer
+unfoldable pub unifyWithin : ℕ → ℕ → List Equation → Unified
 unifyWithin zero zero E = unsolvable
 unifyWithin (suc n) zero E = unsolvable
 unifyWithin zero (suc m) E = rules E (λ E′. unifyWithin zero m E′) (λ E′. unsolvable)
 unifyWithin (suc n) (suc m) E = rules E (λ E′. unifyWithin (suc n) m E′) (λ E′. unifyWithin n (suc (sizeAll E′)) E′)
 
 -- To unfold `unify` is to unfold all that it computes with.
-unfoldable pub unify : List Equation → Answer
+unfoldable pub unify : List Equation → Unified
 unfolding unifyWithin vars varsAll occurs apply applyAll caseOf size sizeAll
 unify E = unifyWithin (length (varsAll E)) (suc (sizeAll E)) E

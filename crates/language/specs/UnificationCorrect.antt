@@ -10,7 +10,7 @@ use lib.Dec.{T, T-not, eqb, eqb-refl}
 use borrow.Author.Tests.{eqb-true, eqb-false}
 use Rattle.language.specs.Ty.{Ty, unit, bool, int, _⇒_, var, Subst, apply}
 use Rattle.language.specs.TyLaws.{identity-most-general}
-use Rattle.language.specs.Unification.{Equation, _≐_, Solves, none-left, also, varsAll, occurs, single, applyAll, Answer, solution, unsolvable, Right, Case, trivial, parts, variable, clash, caseOf, eliminate, byCase, rules, size, sizeAll, unifyWithin, unify}
+use Rattle.language.specs.Unification.{Equation, _≐_, Solves, none-left, also, varsAll, occurs, single, applyAll, Unified, solution, unsolvable, Right, Case, trivial, parts, variable, clash, caseOf, eliminate, byCase, rules, size, sizeAll, unifyWithin, unify}
 use Rattle.language.specs.MostGeneral.{first-solved, rest-solved, single-most-general, after-right}
 use Rattle.language.specs.Elimination.{Holds, all-held, fewer-held}
 
@@ -91,7 +91,7 @@ case-means (τ₁ ⇒ τ₂) int = never (τ₁ ⇒ τ₂) int (λ s. different 
 -- ---- Lists with the same solutions
 
 -- What is right for one is right for the other.
-same-answer : {E E′ : List Equation} → ((s : Subst) → Solves s E → Solves s E′) → ((s : Subst) → Solves s E′ → Solves s E) → (a : Answer) → Right E a → Right E′ a
+same-answer : {E E′ : List Equation} → ((s : Subst) → Solves s E → Solves s E′) → ((s : Subst) → Solves s E′ → Solves s E) → (a : Unified) → Right E a → Right E′ a
 same-answer to from (solution s) r = record { solves = to s (r .solves); most-general = λ s′ h. r .most-general s′ (from s′ h) }
 same-answer to from unsolvable r = λ s h. r s (from s h)
 
@@ -112,7 +112,7 @@ solves-parts {τ₁} {τ₁′} {τ₂} {τ₂′} s (also e h) =
 -- ---- Satz 11
 
 -- The rules answer rightly if the two recursive calls do: on lists of length below m, and on lists whose variables are fewer than those of L.
-module _ (m : ℕ) (L : List ℕ) (shorter fewer : List Equation → Answer)
+module _ (m : ℕ) (L : List ℕ) (shorter fewer : List Equation → Unified)
     (shorter-right : (E : List Equation) → Holds L E → sizeAll E < m → Right E (shorter E))
     (fewer-right : (L′ : List ℕ) (E : List Equation) → length L ≡ suc (length L′) → Holds L′ E → Right E (fewer E)) where
   eliminate-right : (α : ℕ) (τ : Ty) (E : List Equation) → τ ≢ var α → Holds L ((var α ≐ τ) ∷ E) → (b : Bool) → occurs α τ ≡ b → Right ((var α ≐ τ) ∷ E) (eliminate b α τ E fewer)

@@ -2,7 +2,7 @@
 use mathlib.Core.Path.{_≡_, refl}
 use mathlib.Core.List.{List, [], _∷_}
 use Rattle.language.specs.Ty.{Ty, bool, int, _⇒_, var, apply}
-use Rattle.language.specs.Unification.{_≐_, Answer, solution, unsolvable, unify}
+use Rattle.language.specs.Unification.{_≐_, Unified, solution, unsolvable, unify}
 
 abbrev α : Ty
 α = var 0
@@ -11,7 +11,7 @@ abbrev β : Ty
 β = var 1
 
 -- What the answer makes of a list of types; nothing where there is none.
-made : Answer → List Ty → List Ty
+made : Unified → List Ty → List Ty
 made (solution s) [] = []
 made (solution s) (τ ∷ l) = apply s τ ∷ made (solution s) l
 made unsolvable l = []

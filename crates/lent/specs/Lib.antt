@@ -1,4 +1,5 @@
 -- Lent slices of words.
+pub mod Cleared
 pub mod Zeroing
 pub mod Prefix
 pub mod Smaller

@@ -5,7 +5,7 @@ use mathlib.Core.List.{List, [], _∷_, _++_}
 use native.Mathlib.Omega.{arith}
 use lib.ListN.{length, take, drop}
 use lib.Seq.{length-take-le, length-front}
-use Rattle.lent.specs.Zeroing.{zeros}
+use Rattle.lent.specs.Cleared.{zeros, cleared}
 
 -- What lies past the words that came back is as it was.
 drop-past : (s : ℕ) (part store : List ℕ) → length part ≤ s → length part ≤ length store → drop s (part ++ drop (length part) store) ≡ drop s store
@@ -31,7 +31,7 @@ module _ (store : List ℕ) {m : ℕ} (fits : m ≤ length store) where
       length-back = length-take-le s (part ++ drop m store) back-fits
 
       -- They are cleared.
-      pub back-cleared : {zeroed : List ℕ} → zeroed ≡ zeros (length (take s (part ++ drop m store))) → zeroed ++ drop s (part ++ drop m store) ≡ zeros s ++ drop s store
+      pub back-cleared : {zeroed : List ℕ} → zeroed ≡ zeros (length (take s (part ++ drop m store))) → zeroed ++ drop s (part ++ drop m store) ≡ cleared s store
       back-cleared is =
           let same : length part ≡ m = kept ∙ length-lent in
           ap (λ xs. xs ++ drop s (part ++ drop m store)) (is ∙ ap zeros length-back)

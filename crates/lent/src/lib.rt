@@ -16,7 +16,7 @@ pub fn clear(store: &mut [u32])
     }
 }
 
-pub fn smaller(a: usize, b: usize) -> usize
+fn smaller(a: usize, b: usize) -> usize
     ensures { λ r. ⌜ r ≡ smallerOf a b ⌝ }
 {
     if a < b { a } else { b }

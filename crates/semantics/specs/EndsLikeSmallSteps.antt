@@ -13,7 +13,7 @@ use Rattle.table.specs.Tree.{Tree}
 use Rattle.table.specs.ClosedFormula.{root-closed}
 use Rattle.semantics.specs.Limits.{Need, at-end, last-step, steps-to}
 use Rattle.semantics.specs.Machine.{State, End, Step, next, start}
-use Rattle.semantics.specs.Answer.{Answer, endAnswer}
+use Rattle.semantics.specs.Answer.{DefinedAnswer, endAnswer}
 use Rattle.semantics.specs.EndsIn.{EndsIn, here, by-last-step, later}
 use Rattle.semantics.specs.SmallEnd.{EndsAs, Final, Alike}
 use Rattle.semantics.specs.SmallEndLaws.{ends-before, final-has-no-next, small-end-unique, ends-at-a-final}
@@ -33,7 +33,7 @@ module _ {nd : Nodes} {n : ℕ} (t : Tree nd n) where
   last-step-ends : {e : Exp} {left : ℕ} {end : End} → Simulates nd n e left (last-step end) → EndsAs e (endAnswer end)
   last-step-ends (at-last d) = d
 
-  step-ends : {e : Exp} {left : ℕ} {need : Need} {s : State} {a : Answer} → Simulates nd n e left (steps-to need s) → Closed e →
+  step-ends : {e : Exp} {left : ℕ} {need : Need} {s : State} {a : DefinedAnswer} → Simulates nd n e left (steps-to need s) → Closed e →
       ((e′ : Exp) → StateFor nd n s e′ → Closed e′ → EndsAs e′ a) → EndsAs e a
   step-ends (no-small-step stands less) c onwards = onwards _ stands c
   step-ends (small-step d stands) c onwards = ends-before d (onwards _ stands (step-stays-closed d c))
@@ -79,7 +79,7 @@ module _ {nd : Nodes} {n : ℕ} (t : Tree nd n) where
 
   -- ---- The end is the same one
 
-  pub small-end-is-machine-end : {a : Answer} → EndsAs (expAt nd n 0) a → (end : End) × (i : ℕ) × (m : ℕ) × EndsIn (next nd) start end i m × Alike a (endAnswer end)
+  pub small-end-is-machine-end : {a : DefinedAnswer} → EndsAs (expAt nd n 0) a → (end : End) × (i : ℕ) × (m : ℕ) × EndsIn (next nd) start end i m × Alike a (endAnswer end)
   small-end-is-machine-end d =
       let (e′, ds, final) = ends-at-a-final d in
       let (end, i, m, run) = small-end-is-reached ds final in

@@ -14,7 +14,7 @@ use Rattle.table.specs.Scope.{bindsIn, enter, scope, isNamed, firstNamed}
 use Rattle.table.specs.Tree.{Tree}
 use Rattle.table.specs.TreeLaws.{climb-root, climb-kid}
 use Rattle.semantics.specs.Limits.{Need, nothing, at-end, last-step, steps-to}
-use Rattle.semantics.specs.Machine.{Value, unit-value, boolean-value, integer-value, operator-value, operator-with, operator-with-other, closure, Chain, empty, bound, rec-bound, Frame, State, evaluate, End, done, stuck-at, raised-by, Step, lookUp, evaluated, constantValue, withFirst, resulted, operated, applied, chosen, returned, next, start}
+use Rattle.semantics.specs.Machine.{Value, unit-value, boolean-value, integer-value, operator-value, operator-with, operator-with-other, closure, Chain, empty, bound, rec-bound, Frame, State, evaluate, End, done, stuck-at, raised-by, Step, newestBinding, evaluated, constantValue, withFirst, resulted, completed, applied, chosen, returned, next, start}
 use Rattle.semantics.specs.EndsIn.{EndsIn, here, by-last-step, later}
 use Rattle.semantics.specs.InScope.{BindsValue, lambda-binds, let-binds, Follows, no-entry, value-entry, rec-entry, ValueInScope, unit-in-scope, boolean-in-scope, integer-in-scope, operator-in-scope, operator-with-in-scope, operator-with-other-in-scope, closure-in-scope, EnvironmentOf, environment, inside, node-is, follows, left-part-in-scope, holding-in-scope, if-frame-in-scope, let-frame-in-scope, FramesInScope, no-frame, one-more, InScope, evaluate-in-scope, return-in-scope, ApplicationOrIf, an-application, an-if}
 
@@ -61,14 +61,14 @@ module _ {nd : Nodes} {n : ℕ} (P : End → Type 0) where
 
   -- A name that has a binder is found, so P does not matter.
   found-in-scope : (x : Name) (at : ℕ) {b : ℕ} {frames : List Frame} (η : Chain) {ps : List ℕ} →
-      Follows nd n η ps → firstNamed nd x ps ≡ some b → FramesInScope nd n frames → Leads nd n P (lookUp x η at frames)
-  unfolding lookUp firstNamed
+      Follows nd n η ps → firstNamed nd x ps ≡ some b → FramesInScope nd n frames → Leads nd n P (newestBinding x η at frames)
+  unfolding newestBinding firstNamed
   found-in-scope x at empty no-entry found rest = absurd (let z : _≡_ {A = ℕ} 0 1 = cc in omega arith)
   found-in-scope x at {frames = frames} (bound y v η) (value-entry binds value others) found rest =
-      newest (eqb y x) (lookUp x η at frames) (return-in-scope value rest) λ other.
+      newest (eqb y x) (newestBinding x η at frames) (return-in-scope value rest) λ other.
       found-in-scope x at η others (rw (named-by-value binds x, other) at found) rest
   found-in-scope x at {frames = frames} (rec-bound y k η) (rec-entry env same) found rest =
-      newest (eqb y x) (lookUp x η at frames) (evaluate-in-scope env rest) λ other.
+      newest (eqb y x) (newestBinding x η at frames) (evaluate-in-scope env rest) λ other.
       found-in-scope x at η (follows env) (rw (node-is env, other, same) at found) rest
 
 -- ---- Entering a child
@@ -109,21 +109,21 @@ module _ {nd : Nodes} {n : ℕ} (t : Tree nd n) where
   resulted-in-scope (exception x) rest = tt
 
   module _ {k : ℕ} {frames : List Frame} (there : StuckThere nd n (stuck-at k)) (rest : FramesInScope nd n frames) where
-    operated-in-scope : (o : Operator) (m : ℤ) (v : Value) → LeadsOn (operated o m v k frames)
-    operated-in-scope o m unit-value = there
-    operated-in-scope o m (boolean-value b) = there
-    operated-in-scope o m (integer-value l) = resulted-in-scope (meaning o m l) rest
-    operated-in-scope o m (operator-value p) = there
-    operated-in-scope o m (operator-with p l) = there
-    operated-in-scope o m (operator-with-other p) = there
-    operated-in-scope o m (closure x b η) = there
+    completed-in-scope : (o : Operator) (m : ℤ) (v : Value) → LeadsOn (completed o m v k frames)
+    completed-in-scope o m unit-value = there
+    completed-in-scope o m (boolean-value b) = there
+    completed-in-scope o m (integer-value l) = resulted-in-scope (meaning o m l) rest
+    completed-in-scope o m (operator-value p) = there
+    completed-in-scope o m (operator-with p l) = there
+    completed-in-scope o m (operator-with-other p) = there
+    completed-in-scope o m (closure x b η) = there
 
     applied-in-scope : {u v : Value} → ValueInScope nd n u → ValueInScope nd n v → LeadsOn (applied u v k frames)
     applied-in-scope unit-in-scope value = there
     applied-in-scope boolean-in-scope value = there
     applied-in-scope integer-in-scope value = there
     applied-in-scope {v = v} (operator-in-scope {o}) value = return-in-scope (with-first-in-scope o v) rest
-    applied-in-scope {v = v} (operator-with-in-scope {o} {m}) value = operated-in-scope o m v
+    applied-in-scope {v = v} (operator-with-in-scope {o} {m}) value = completed-in-scope o m v
     applied-in-scope operator-with-other-in-scope value = there
     applied-in-scope (closure-in-scope env) value = evaluate-in-scope (enters field-b env refl (with-value env lambda-binds value)) rest
 

@@ -8,10 +8,10 @@ use native.Mathlib.Nat.{zero-add}
 use native.Mathlib.Omega.{arith}
 use borrow.Author.Tests.{lt-ltb}
 use lib.Dec.{ltb}
-use Rattle.semantics.specs.Limits.{Need, nothing, a-binding, a-frame, Next, at-end, last-step, steps-to, Limit, fuel-limit, binding-limit, frame-limit, How, ended, ran-out, Ran, Room, ran, ifFree, withoutFuel, withFuel, runFrom, run, AtLeast}
+use Rattle.semantics.specs.Limits.{Need, nothing, a-binding, a-frame, Next, at-end, last-step, steps-to, Limit, fuel-limit, binding-limit, frame-limit, How, ended, ran-out, Course, Room, ran, ifFree, withoutFuel, withFuel, runFrom, run, AtLeast}
 use Rattle.semantics.specs.EndsIn.{bindingsFor, EndsIn, here, by-last-step, later}
 
-with-counts : {E : Type 0} {r : Ran E} {h : How E} {n n′ m m′ : ℕ} → r ≡ ran h n m → (n ≡ n′) × (m ≡ m′) → r ≡ ran h n′ m′
+with-counts : {E : Type 0} {r : Course E} {h : How E} {n n′ m m′ : ℕ} → r ≡ ran h n m → (n ≡ n′) × (m ≡ m′) → r ≡ ran h n′ m′
 with-counts p q = cc
 
 abbrev room-of : ℕ → ℕ → ℕ → Room
@@ -28,7 +28,7 @@ module _ {S E : Type 0} (next : S → Next S E) (inUse : S → ℕ) where
 
   module _ (room : Room) where
     -- Where a binding and a frame are free the step is made, whatever it needs.
-    goes-on : (need : Need) (s : S) (used steps made : ℕ) (onwards : ℕ → S → Ran E) → bindingsFor need + made ≤ room .bindings → used < room .frames
+    goes-on : (need : Need) (s : S) (used steps made : ℕ) (onwards : ℕ → S → Course E) → bindingsFor need + made ≤ room .bindings → used < room .frames
         → withFuel (steps-to need s) room used steps made onwards ≡ onwards (bindingsFor need + made) s
     goes-on nothing s used steps made onwards h g = ap (λ k. onwards k s) (omega arith)
     goes-on a-binding s used steps made onwards h g = rw (lt-ltb made (room .bindings) (omega arith)) (ap (λ k. onwards k s) (omega arith))
@@ -65,32 +65,32 @@ module _ {S E : Type 0} (next : S → Next S E) (inUse : S → ℕ) where
   -- ---- Every run is that end or names what ran out
 
   -- How a run from s went that had made so many steps and bindings before: to the end of the machine without limits, or it ran out.
-  data Outcome (s : S) (steps made : ℕ) (r : Ran E) : Type 0 where
-    comes-to-end : {e : E} {n m : ℕ} → EndsIn next s e n m → r ≡ ran (ended e) (steps + n) (made + m) → Outcome s steps made r
-    runs-out : (l : Limit) → r .how ≡ ran-out l → Outcome s steps made r
+  data EndOrLimit (s : S) (steps made : ℕ) (r : Course E) : Type 0 where
+    comes-to-end : {e : E} {n m : ℕ} → EndsIn next s e n m → r ≡ ran (ended e) (steps + n) (made + m) → EndOrLimit s steps made r
+    runs-out : (l : Limit) → r .how ≡ ran-out l → EndOrLimit s steps made r
 
-  test-keeps-outcome : {s : S} {steps made : ℕ} {r : Ran E} (b : Bool) (l : Limit) → Outcome s steps made r → Outcome s steps made (ifFree b l steps made (λ _. r))
+  test-keeps-outcome : {s : S} {steps made : ℕ} {r : Course E} (b : Bool) (l : Limit) → EndOrLimit s steps made r → EndOrLimit s steps made (ifFree b l steps made (λ _. r))
   test-keeps-outcome true l o = o
   test-keeps-outcome false l o = runs-out l refl
 
-  step-keeps-outcome : {s s′ : S} {steps made made′ : ℕ} {r : Ran E} {need : Need} → next s ≡ steps-to need s′ → made′ ≡ bindingsFor need + made
-      → Outcome s′ (suc steps) made′ r → Outcome s steps made r
+  step-keeps-outcome : {s s′ : S} {steps made made′ : ℕ} {r : Course E} {need : Need} → next s ≡ steps-to need s′ → made′ ≡ bindingsFor need + made
+      → EndOrLimit s′ (suc steps) made′ r → EndOrLimit s steps made r
   step-keeps-outcome p q (comes-to-end d h) = comes-to-end (later p d) (with-counts h (omega arith))
   step-keeps-outcome p q (runs-out l h) = runs-out l h
 
   module _ (room : Room) where
-    outcome : (left steps made : ℕ) (s : S) → Outcome s steps made (runFrom next inUse room left steps made s)
+    outcome : (left steps made : ℕ) (s : S) → EndOrLimit s steps made (runFrom next inUse room left steps made s)
     unfolding runFrom
     outcome zero steps made s = go (next s) refl
       where
-        go : (x : Next S E) → next s ≡ x → Outcome s steps made (withoutFuel x steps made)
+        go : (x : Next S E) → next s ≡ x → EndOrLimit s steps made (withoutFuel x steps made)
         go (at-end e) p = comes-to-end (here p) (with-counts refl (omega arith))
         go (last-step e) p = runs-out fuel-limit refl
         go (steps-to need s′) p = runs-out fuel-limit refl
     outcome (suc left) steps made s = go (next s) refl (λ made′ s′. outcome left (suc steps) made′ s′)
       where
-        go : (x : Next S E) → next s ≡ x → ((made′ : ℕ) (s′ : S) → Outcome s′ (suc steps) made′ (runFrom next inUse room left (suc steps) made′ s′))
-            → Outcome s steps made (withFuel x room (inUse s) steps made (λ made′ s′. runFrom next inUse room left (suc steps) made′ s′))
+        go : (x : Next S E) → next s ≡ x → ((made′ : ℕ) (s′ : S) → EndOrLimit s′ (suc steps) made′ (runFrom next inUse room left (suc steps) made′ s′))
+            → EndOrLimit s steps made (withFuel x room (inUse s) steps made (λ made′ s′. runFrom next inUse room left (suc steps) made′ s′))
         go (at-end e) p on = comes-to-end (here p) (with-counts refl (omega arith))
         go (last-step e) p on = comes-to-end (by-last-step p) (with-counts refl (omega arith))
         go (steps-to nothing s′) p on = step-keeps-outcome p (omega arith) (on made s′)

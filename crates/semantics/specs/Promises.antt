@@ -17,7 +17,7 @@ use Rattle.table.specs.ExpressionOf.{expOf}
 use Rattle.table.specs.Tree.{Checked}
 use Rattle.semantics.specs.Limits.{Need, at-end, steps-to, Room}
 use Rattle.semantics.specs.Machine.{Chain, Frame, State, evaluate, End, next, start}
-use Rattle.semantics.specs.Answer.{Answer, exception-answer, stuck-answer, code, runTable}
+use Rattle.semantics.specs.Answer.{DefinedAnswer, exception-answer, stuck-answer, code, runTable}
 use Rattle.semantics.specs.SmallEnd.{EndsAs}
 use Rattle.semantics.specs.Reached.{NamesLimit, answerFor, Reached}
 use Rattle.semantics.specs.InScope.{InScope, ApplicationOrIf}
@@ -61,5 +61,5 @@ module _ {words : List ℕ} {n : ℕ} (checked : Checked words n) where
   names-are-found = InScopeLaws.names-are-found (checked .tree)
 
 -- (e) Every run answers exactly one of 10 to 19, with counts that are the machine's: `runTable` is a function.
-answers-10-to-19 : (a : Answer) → (10 ≤ code a) × (code a ≤ 19)
+answers-10-to-19 : (a : DefinedAnswer) → (10 ≤ code a) × (code a ≤ 19)
 answers-10-to-19 = TableRuns.answers-10-to-19

@@ -5,21 +5,21 @@ use mathlib.Core.Logic.{_⊎_}
 use mathlib.Core.List.{List}
 use Rattle.language.specs.Expression.{Constant, Exp, constant, name, app, if-then-else, lambda, let-in, rec, unit-element, boolean, integer, operator}
 use Rattle.semantics.specs.Limits.{Limit, Room, AtLeast}
-use Rattle.semantics.specs.Answer.{Answer, integer-answer, boolean-answer, unit-answer, function-answer, limit-answer, runTable}
+use Rattle.semantics.specs.Answer.{DefinedAnswer, integer-answer, boolean-answer, unit-answer, function-answer, limit-answer, runTable}
 
 -- A run names what ran out: 17, 18 or 19.
-pub record NamesLimit (a : Answer) : Type 0 where
+pub record NamesLimit (a : DefinedAnswer) : Type 0 where
   pub limit : Limit
   pub names : a ≡ limit-answer limit
 
 -- The answer for a value of L2: 10, 11, 12, or 13 for a function.
-abbrev pub constantAnswer : Constant → Answer
+abbrev pub constantAnswer : Constant → DefinedAnswer
 constantAnswer unit-element = unit-answer
 constantAnswer (boolean b) = boolean-answer b
 constantAnswer (integer n) = integer-answer n
 constantAnswer (operator o) = function-answer
 
-abbrev pub answerFor : Exp → Answer
+abbrev pub answerFor : Exp → DefinedAnswer
 answerFor (constant c) = constantAnswer c
 answerFor (name x) = function-answer
 answerFor (app e₁ e₂) = function-answer
@@ -30,7 +30,7 @@ answerFor (rec x e) = function-answer
 
 -- Some fuel and room give that answer; all greater ones, in each of the three numbers, give it with the same counts; all others give it
 -- or name what ran out.
-pub record Reached (words : List ℕ) (a : Answer) : Type 0 where
+pub record Reached (words : List ℕ) (a : DefinedAnswer) : Type 0 where
   pub room : Room
   pub steps : ℕ
   pub bindings : ℕ

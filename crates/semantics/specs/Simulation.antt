@@ -21,7 +21,7 @@ use Rattle.table.specs.ExpressionOf.{shape, expAt}
 use Rattle.table.specs.Tree.{Tree}
 use Rattle.table.specs.ExpressionLaws.{exp-is}
 use Rattle.semantics.specs.Limits.{Need, nothing, at-end, last-step, steps-to}
-use Rattle.semantics.specs.Machine.{Value, integer-value, operator-with-other, Chain, Frame, State, End, stuck-at, Step, constantValue, lookUp, evaluated, withFirst, resulted, operated, applied, chosen, returned, next}
+use Rattle.semantics.specs.Machine.{Value, integer-value, operator-with-other, Chain, Frame, State, End, stuck-at, Step, constantValue, newestBinding, evaluated, withFirst, resulted, completed, applied, chosen, returned, next}
 use Rattle.semantics.specs.Answer.{endAnswer}
 use Rattle.semantics.specs.SmallEnd.{EndsAs, an-exception, got-stuck}
 use Rattle.semantics.specs.Close.{Replacement, close}
@@ -41,7 +41,7 @@ pub data Simulates (nd : Nodes) (n : ℕ) (e : Exp) (left : ℕ) : Step → Type
 data Integral : Value → Exp → Type 0 where
   integral : {m : ℤ} → Integral (integer-value m) (constant (integer m))
   other : {v : Value} {w : Exp} → asInteger w ≡ none → ((o : Operator) → withFirst o v ≡ operator-with-other o) →
-      ((o : Operator) (m : ℤ) (k : ℕ) (frames : List Frame) → operated o m v k frames ≡ at-end (stuck-at k)) → Integral v w
+      ((o : Operator) (m : ℤ) (k : ℕ) (frames : List Frame) → completed o m v k frames ≡ at-end (stuck-at k)) → Integral v w
 
 stuck-application : {f w : Exp} → L2.Value f → L2.Value w → Moves.applied (asFunction f) w ≡ stuck → Small.Stuck (app f w)
 unfolding move
@@ -80,8 +80,8 @@ module _ {nd : Nodes} {n : ℕ} where
     newest-or-rest true stands less rest = no-small-step stands less
     newest-or-rest false stands less rest = rest
 
-    looked-up : {η : Chain} {σ : Replacement} (x : Name) (k : ℕ) → ChainFor nd n η σ → Simulates nd n (context (σ x)) (2 + pending) (lookUp x η k frames)
-    unfolding lookUp work move
+    looked-up : {η : Chain} {σ : Replacement} (x : Name) (k : ℕ) → ChainFor nd n η σ → Simulates nd n (context (σ x)) (2 + pending) (newestBinding x η k frames)
+    unfolding newestBinding work move
     looked-up x k nothing-bound = stuck-here k (move-is-stuck (name x) refl)
     looked-up x k (binding {x = y} v c η) = newest-or-rest (eqb y x) (returning v around) (omega arith) (looked-up x k η)
     looked-up x k (rec-binding {x = y} h q c η) = newest-or-rest (eqb y x) (rw (← q) (evaluating h η around)) (rw q (omega arith)) (looked-up x k η)
@@ -94,7 +94,7 @@ module _ {nd : Nodes} {n : ℕ} where
     result-simulated (exception x) d = at-last (an-exception Small.done (raises-around around d))
 
     operator-simulated : {v : Value} {w : Exp} {l : ℕ} (o : Operator) (m : ℤ) (k : ℕ) → L2.Value w → Integral v w →
-        Simulates nd n (context (app (app (constant (operator o)) (constant (integer m))) w)) l (operated o m v k frames)
+        Simulates nd n (context (app (app (constant (operator o)) (constant (integer m))) w)) l (completed o m v k frames)
     unfolding asFunction
     operator-simulated o m k value (integral {m = j}) = result-simulated (meaning o m j) (OP refl)
     operator-simulated o m k value (other p first second) =

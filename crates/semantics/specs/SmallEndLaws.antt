@@ -7,12 +7,12 @@ use Rattle.language.specs.SmallStep.{next, raised, Step, Steps, done, then, Div
 use Rattle.language.specs.Move.{Move, steps, value, stuck, move}
 use Rattle.language.specs.MoveDecides.{value-is-move, step-is-move, stuck-is-move}
 use Rattle.language.specs.Determinism.{values-do-not-step, steps-are-deterministic}
-use Rattle.semantics.specs.Answer.{Answer, unit-answer, function-answer, exception-answer, stuck-answer}
+use Rattle.semantics.specs.Answer.{DefinedAnswer, unit-answer, function-answer, exception-answer, stuck-answer}
 use Rattle.semantics.specs.SmallEnd.{Function, a-lambda, an-operator, an-operator-with, EndsAs, an-integer, a-boolean, the-unit, a-function, an-exception, got-stuck, Final, at-value, at-exception, at-stuck, Alike, same, both-stuck}
 use Rattle.semantics.specs.Reached.{answerFor}
 
 -- What steps to an expression ends as that does.
-pub ends-before : {e e′ : Exp} {a : Answer} → Step e (next e′) → EndsAs e′ a → EndsAs e a
+pub ends-before : {e e′ : Exp} {a : DefinedAnswer} → Step e (next e′) → EndsAs e′ a → EndsAs e a
 ends-before d (an-integer ds) = an-integer (then d ds)
 ends-before d (a-boolean ds) = a-boolean (then d ds)
 ends-before d (the-unit ds) = the-unit (then d ds)
@@ -36,14 +36,14 @@ final-is-one (then {e′} d₁ ds₁) f₁ (then {e′ = e″} d₂ ds₂) f₂ 
     final-is-one ds₁ f₁ (rw one at ds₂) f₂
 
 -- The answer that a last expression is, with a node for a stuck one.
-abbrev moveAnswer : Move → Exp → ℕ → Answer
+abbrev moveAnswer : Move → Exp → ℕ → DefinedAnswer
 moveAnswer (steps (next e′)) e k = unit-answer
 moveAnswer (steps (raised x)) e k = exception-answer x
 moveAnswer value e k = answerFor e
 moveAnswer stuck e k = stuck-answer k
 
 -- An end with its last expression.
-record Ended (e : Exp) (a : Answer) : Type 0 where
+record Ended (e : Exp) (a : DefinedAnswer) : Type 0 where
   last : Exp
   node : ℕ
   reached : Steps e last
@@ -60,10 +60,10 @@ function-answers a-lambda = refl
 function-answers an-operator = refl
 function-answers (an-operator-with w) = refl
 
-value-ended : {e v : Exp} {a : Answer} → Steps e v → Value v → a ≡ answerFor v → Ended e a
+value-ended : {e v : Exp} {a : DefinedAnswer} → Steps e v → Value v → a ≡ answerFor v → Ended e a
 value-ended ds v p = record { last = _; node = 0; reached = ds; final = at-value v; tells = rw (value-is-move v) p }
 
-ended : {e : Exp} {a : Answer} → EndsAs e a → Ended e a
+ended : {e : Exp} {a : DefinedAnswer} → EndsAs e a → Ended e a
 ended (an-integer ds) = value-ended ds constant-value refl
 ended (a-boolean ds) = value-ended ds constant-value refl
 ended (the-unit ds) = value-ended ds constant-value refl
@@ -71,7 +71,7 @@ ended (a-function ds f) = value-ended ds (function-value f) (function-answers f)
 ended (an-exception ds x) = record { last = _; node = 0; reached = ds; final = at-exception x; tells = rw (step-is-move x) }
 ended (got-stuck {k} ds s) = record { last = _; node = k; reached = ds; final = at-stuck s; tells = rw (stuck-is-move s) }
 
-pub small-end-unique : {e : Exp} {a a′ : Answer} → EndsAs e a → EndsAs e a′ → Alike a a′
+pub small-end-unique : {e : Exp} {a a′ : DefinedAnswer} → EndsAs e a → EndsAs e a′ → Alike a a′
 small-end-unique {e} {a} {a′} d d′ = go (ended d) (ended d′)
   where
     alike : (m : Move) (e : Exp) (j k : ℕ) → Alike (moveAnswer m e j) (moveAnswer m e k)
@@ -84,10 +84,10 @@ small-end-unique {e} {a} {a′} d d′ = go (ended d) (ended d′)
     go r r′ =
         rw (r .tells, r′ .tells, final-is-one (r .reached) (r .final) (r′ .reached) (r′ .final)) (alike (move (r′ .last)) (r′ .last) (r .node) (r′ .node))
 
-pub ends-at-a-final : {e : Exp} {a : Answer} → EndsAs e a → (e′ : Exp) × Steps e e′ × Final e′
+pub ends-at-a-final : {e : Exp} {a : DefinedAnswer} → EndsAs e a → (e′ : Exp) × Steps e e′ × Final e′
 ends-at-a-final d = let r = ended d in (r .last, r .reached, r .final)
 
-pub what-ends-does-not-diverge : {e : Exp} {a : Answer} → EndsAs e a → ¬ Diverges e
+pub what-ends-does-not-diverge : {e : Exp} {a : DefinedAnswer} → EndsAs e a → ¬ Diverges e
 what-ends-does-not-diverge d g =
     let (e′, ds, final) = ends-at-a-final d in
     final-has-no-next final (g .goes-on e′ ds .1)

@@ -18,7 +18,7 @@ use Rattle.table.specs.Tree.{Checked}
 use Rattle.table.specs.Accepted.{count-is}
 use Rattle.semantics.specs.Limits.{fuel-limit, binding-limit, frame-limit, How, ended, ran-out, Room, run}
 use Rattle.semantics.specs.Machine.{Value, unit-value, boolean-value, integer-value, operator-value, operator-with, operator-with-other, closure, End, done, stuck-at, raised-by, next, start, framesInUse}
-use Rattle.semantics.specs.Answer.{Answer, integer-answer, boolean-answer, unit-answer, function-answer, exception-answer, stuck-answer, limit-answer, code, valueAnswer, endAnswer, answerOf, wholeAnswer, runTable}
+use Rattle.semantics.specs.Answer.{DefinedAnswer, integer-answer, boolean-answer, unit-answer, function-answer, exception-answer, stuck-answer, limit-answer, code, valueAnswer, endAnswer, answerOf, wholeAnswer, runTable}
 use Rattle.semantics.specs.SmallEnd.{EndsAs, got-stuck, an-integer, a-boolean, the-unit, a-function, an-exception, a-lambda, an-operator, an-operator-with, Alike, same, both-stuck}
 use Rattle.semantics.specs.Reached.{NamesLimit, answerFor, Reached}
 use Rattle.semantics.specs.EndsIn.{EndsIn}
@@ -55,7 +55,7 @@ module _ {words : List ℕ} {n : ℕ} (checked : Checked words n) where
 
   -- ---- Types
 
-  stuck-is-stuck : {a : Answer} {k : ℕ} → EndsAs e a → a ≡ stuck-answer k → (e′ : Exp) × Steps e e′ × Stuck e′
+  stuck-is-stuck : {a : DefinedAnswer} {k : ℕ} → EndsAs e a → a ≡ stuck-answer k → (e′ : Exp) × Steps e e′ × Stuck e′
   stuck-is-stuck (an-integer s) is = absurd (let z : _≡_ {A = ℕ} 0 1 = cc in omega arith)
   stuck-is-stuck (a-boolean s) is = absurd (let z : _≡_ {A = ℕ} 0 1 = cc in omega arith)
   stuck-is-stuck (the-unit s) is = absurd (let z : _≡_ {A = ℕ} 0 1 = cc in omega arith)
@@ -86,12 +86,12 @@ module _ {words : List ℕ} {n : ℕ} (checked : Checked words n) where
         others = λ r. ⊎-map (ap wholeAnswer) (λ out. record { limit = out .0; names = ap answerOf (out .1) }) (LimitsLaws.ended-or-ran-out (next nd) framesInUse x r);
       }
 
-  reached : {a : Answer} → EndsAs e a → ((k : ℕ) → ¬ (a ≡ stuck-answer k)) → Reached words a
+  reached : {a : DefinedAnswer} → EndsAs e a → ((k : ℕ) → ¬ (a ≡ stuck-answer k)) → Reached words a
   reached {a} ends no-stuck =
       let (end, i, m, x, alike) = EndsLikeSmallSteps.small-end-is-machine-end (checked .tree) (subst (λ (f : Exp). EndsAs f a) (sym root-is) ends) in
       subst (Reached words) (sym (equal alike no-stuck)) (end-is-reached x)
     where
-      equal : {a b : Answer} → Alike a b → ((k : ℕ) → ¬ (a ≡ stuck-answer k)) → a ≡ b
+      equal : {a b : DefinedAnswer} → Alike a b → ((k : ℕ) → ¬ (a ≡ stuck-answer k)) → a ≡ b
       equal same h = refl
       equal (both-stuck {j}) h = absurd (h j refl)
 
@@ -150,7 +150,7 @@ module _ {words : List ℕ} {n : ℕ} (checked : Checked words n) where
 
 -- ---- Codes
 
-pub answers-10-to-19 : (a : Answer) → (10 ≤ code a) × (code a ≤ 19)
+pub answers-10-to-19 : (a : DefinedAnswer) → (10 ≤ code a) × (code a ≤ 19)
 answers-10-to-19 (integer-answer n) = omega arith
 answers-10-to-19 (boolean-answer b) = omega arith
 answers-10-to-19 unit-answer = omega arith

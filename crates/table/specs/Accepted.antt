@@ -15,7 +15,7 @@ use Rattle.table.specs.Node.{Node, Nodes, constant-node, name-node, appl
 use Rattle.table.specs.Scope.{scope, firstNamed, nameOf, binderFor}
 use Rattle.table.specs.Refusals.{wrongCount, countOf, fits, timesBelow, misplaced, isSome, unbound, firstFrom, refuseAt, checkNodes, checkOf}
 use Rattle.table.specs.declared.Verdict.{Verdict}
-use Rattle.table.specs.declared.Verdict.the-variants.{Nodes as Accepted}
+use Rattle.table.specs.declared.Verdict.the-variants.{Accepted}
 use Rattle.table.specs.Tree.{Tree, Checked}
 use Rattle.table.specs.TreeLaws.{one-place}
 use Rattle.table.specs.FirstFrom.{first-none, none-first}

@@ -10,7 +10,7 @@ use Rattle.table.specs.Walk.{climbFrom}
 use Rattle.table.specs.Scope.{firstNamed, binderOf, scope}
 use Rattle.table.specs.Refusals.{fitsRule, timesBelow, firstFrom, checkOf}
 use Rattle.table.specs.ExpressionOf.{expFrom, expOf}
-use Rattle.table.specs.declared.Verdict.the-variants.{Nodes as Accepted, Refused}
+use Rattle.table.specs.declared.Verdict.the-variants.{Accepted, Refused}
 
 -- P1: (fun x -> + x 1) 5
 p1 : List ℕ

@@ -5,11 +5,9 @@ use mathlib.Core.List.{List, [], _∷_}
 use mathlib.Core.Option.{Option, none, some}
 use mathlib.Core.Path.{_≡_}
 use lib.Dec.{eqb}
-use lib.IntN.{ℤ}
 use lib.ListN.{getD}
-use mir.Syntax.{w32}
-use mir.Val.{toZ}
-use Rattle.language.specs.Expression.{Name, Operator, plus, minus, times, divide, modulo, less, greater, at-most, at-least, equal, Constant, unit-element, boolean, integer, operator}
+use Rattle.language.specs.Expression.{Name, Constant, unit-element, boolean, integer, operator}
+use Rattle.language.specs.Numbers.{operatorAt, signed}
 
 -- ---- Nodes
 
@@ -57,17 +55,6 @@ pub record Kid (nd : Nodes) (p : ℕ) (f : Field) (c : ℕ) : Type 0 where
   pub stands : child (nd p) f ≡ some c
 
 -- ---- Words
-
--- Operators 0 to 9: + - * / mod < > <= >= =
-abbrev pub operators : List Operator
-operators = plus ∷ minus ∷ times ∷ divide ∷ modulo ∷ less ∷ greater ∷ at-most ∷ at-least ∷ equal ∷ []
-
-abbrev pub operatorAt : ℕ → Operator
-operatorAt k = getD operators k equal
-
--- An integer is a two's complement pattern of 32 bits.
-abbrev pub signed : ℕ → ℤ
-signed p = toZ w32 p
 
 -- Kinds 0 to 9, each on its fields.
 abbrev pub kinds : List (ℕ → ℕ → ℕ → Node)

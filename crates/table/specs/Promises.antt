@@ -16,7 +16,7 @@ use Rattle.table.specs.TreeLaws as TreeLaws
 use Rattle.table.specs.ExpressionLaws as ExpressionLaws
 use Rattle.table.specs.Accepted as Accepted
 use Rattle.table.specs.ClosedFormula as ClosedFormula
-use Rattle.table.specs.declared.Verdict.the-variants.{Nodes as Accepts}
+use Rattle.table.specs.declared.Verdict.the-variants.{Accepted as Accepts}
 
 -- ---- What code 0 means
 

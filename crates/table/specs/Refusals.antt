@@ -9,7 +9,7 @@ use Rattle.table.specs.Node.{Node, Nodes, field-a, field-b, field-c, chi
 use Rattle.table.specs.Walk.{holds}
 use Rattle.table.specs.Scope.{nameOf, binderOf}
 use Rattle.table.specs.declared.Verdict.{Verdict}
-use Rattle.table.specs.declared.Verdict.the-variants.{Nodes as Accepted, Refused}
+use Rattle.table.specs.declared.Verdict.the-variants.{Accepted, Refused}
 
 -- ---- Code 1: the word count is 0, no multiple of 4, or above 2,048
 

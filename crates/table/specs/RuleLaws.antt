@@ -1,15 +1,10 @@
 -- The rule of a kind, where the code asks it of several kinds at once.
-use Prim.Native.Nat.{ℕ, suc, _≤_}
-use native.Mathlib.Omega.{arith}
+use Prim.Native.Nat.{ℕ, _≤_}
 use mathlib.Core.Path.{_≡_, ap}
 use mathlib.Core.Logic.{_⊎_, inl, inr}
 use mathlib.Core.Bool.{Bool, false, _&&_}
 use lib.ListN.{List·getD-eq-default}
 use Rattle.table.specs.Refusals.{rules, fitsRule, isName, isChild, isUnused}
-
--- One number more that x is not.
-pub not-this : {k x : ℕ} → k ≤ x → (x ≡ k → ⊥) → suc k ≤ x
-not-this h ne = omega arith
 
 module _ (n k kind a b c : ℕ) where
   pub rule-of-unknown : 10 ≤ kind → fitsRule n k kind a b c ≡ false

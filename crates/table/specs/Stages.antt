@@ -14,7 +14,7 @@ use Rattle.table.specs.FirstFrom.{first-none}
 use Rattle.table.specs.Accepted.{right-count}
 use Rattle.table.specs.Parents.{misplaced-as-below}
 use Rattle.table.specs.declared.Verdict.{Verdict}
-use Rattle.table.specs.declared.Verdict.the-variants.{Nodes as Accepted, Refused}
+use Rattle.table.specs.declared.Verdict.the-variants.{Accepted, Refused}
 
 -- ---- One stage
 

@@ -168,7 +168,7 @@ fn is_unbound(words: &[u32], k: u32) -> bool
 // Code 4: the smallest name without a binder.
 pub(crate) fn names(words: &[u32], n: u32) -> Verdict
     requires { ⌜ 4 * n ≤ length (now words) ⌝ }
-    ensures { λ r. ⌜ r ≡ refuseAt 4 (firstFrom (unbound (nodeAt (now (words .entry)))) n 0) (Verdict.Nodes n) ⌝ }
+    ensures { λ r. ⌜ r ≡ refuseAt 4 (firstFrom (unbound (nodeAt (now (words .entry)))) n 0) (Verdict.Accepted n) ⌝ }
 {
     let mut k: u32 = 0;
     while k < n {
@@ -177,7 +177,7 @@ pub(crate) fn names(words: &[u32], n: u32) -> Verdict
         }
         k += 1;
     }
-    Verdict::Nodes(n)
+    Verdict::Accepted(n)
 }
 
 // The binder of the name at node k.

@@ -14,7 +14,7 @@ ghost use Rattle.table.specs.Refusals.{miscount, countOf, refuseAt, chec
 // What the check of a table answers.
 pub enum Verdict {
     // The table is in order, with so many nodes.
-    Nodes(u32),
+    Accepted(u32),
     // The first refusal in order, with the smallest place.
     Refused { code: u32, place: u32 },
 }
@@ -35,13 +35,13 @@ pub struct NodeWords {
 
 // Code 1, or the node count.
 fn count(words: &[u32]) -> Verdict
-    ensures { λ r. ⌜ r ≡ refuseAt 1 (miscount (length (now (words .entry)))) (Verdict.Nodes (countOf (now (words .entry)))) ⌝ }
+    ensures { λ r. ⌜ r ≡ refuseAt 1 (miscount (length (now (words .entry)))) (Verdict.Accepted (countOf (now (words .entry)))) ⌝ }
 {
     let l = words.len();
     match l {
         1..=2048 => {
             if l % 4 == 0 {
-                Verdict::Nodes((l / 4) as u32)
+                Verdict::Accepted((l / 4) as u32)
             } else {
                 Verdict::Refused { code: 1, place: 0 }
             }
@@ -55,15 +55,15 @@ pub fn check(words: &[u32]) -> Verdict
     ensures { λ r. ⌜ r ≡ checkOf (now (words .entry)) ⌝ }
 {
     let counted = count(words);
-    let Verdict::Nodes(n) = counted else {
+    let Verdict::Accepted(n) = counted else {
         return counted;
     };
     let fielded = rules::fields(words, n);
-    let Verdict::Nodes(_) = fielded else {
+    let Verdict::Accepted(_) = fielded else {
         return fielded;
     };
     let placed = tree::rooted(words, n);
-    let Verdict::Nodes(_) = placed else {
+    let Verdict::Accepted(_) = placed else {
         return placed;
     };
     binders::names(words, n)

@@ -73,7 +73,7 @@ fn breaks_rule(words: &[u32], n: u32, k: u32) -> bool
 // Code 2: the smallest node that breaks the rule of its kind.
 pub(crate) fn fields(words: &[u32], n: u32) -> Verdict
     requires { ⌜ 4 * n ≤ length (now words) ⌝ }
-    ensures { λ r. ⌜ r ≡ refuseAt 2 (firstFrom (λ k. not (fits (now (words .entry)) n k)) n 0) (Verdict.Nodes n) ⌝ }
+    ensures { λ r. ⌜ r ≡ refuseAt 2 (firstFrom (λ k. not (fits (now (words .entry)) n k)) n 0) (Verdict.Accepted n) ⌝ }
 {
     let mut k: u32 = 0;
     while k < n {
@@ -82,5 +82,5 @@ pub(crate) fn fields(words: &[u32], n: u32) -> Verdict
         }
         k += 1;
     }
-    Verdict::Nodes(n)
+    Verdict::Accepted(n)
 }

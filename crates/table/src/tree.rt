@@ -44,12 +44,12 @@ fn times_at(words: &[u32], p: u32, k: u32) -> u32
 // Code 3: the smallest node other than 0 that is not a child exactly once.
 fn parents(words: &[u32], n: u32) -> Verdict
     requires { ⌜ (4 * n ≤ length (now words)) × (0 < n) ⌝ }
-    ensures { λ r. ⌜ r ≡ refuseAt 3 (firstFrom (misplacedBelow (nodeAt (now (words .entry)))) n 0) (Verdict.Nodes n) ⌝ }
+    ensures { λ r. ⌜ r ≡ refuseAt 3 (firstFrom (misplacedBelow (nodeAt (now (words .entry)))) n 0) (Verdict.Accepted n) ⌝ }
 {
     let mut k: u32 = 1;
     'nodes: loop {
         if n <= k {
-            break 'nodes Verdict::Nodes(n);
+            break 'nodes Verdict::Accepted(n);
         }
         let mut times: u32 = 0;
         let mut p: u32 = 0;
@@ -139,10 +139,10 @@ fn placed(words: &[u32], n: u32) -> bool
 // Code 3, by scans only where a node is misplaced.
 pub(crate) fn rooted(words: &[u32], n: u32) -> Verdict
     requires { ⌜ (4 * n ≤ length (now words)) × (0 < n) ⌝ }
-    ensures { λ r. ⌜ r ≡ refuseAt 3 (firstFrom (misplacedBelow (nodeAt (now (words .entry)))) n 0) (Verdict.Nodes n) ⌝ }
+    ensures { λ r. ⌜ r ≡ refuseAt 3 (firstFrom (misplacedBelow (nodeAt (now (words .entry)))) n 0) (Verdict.Accepted n) ⌝ }
 {
     if placed(words, n) {
-        return Verdict::Nodes(n);
+        return Verdict::Accepted(n);
     }
     parents(words, n)
 }

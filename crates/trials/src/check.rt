@@ -4,7 +4,7 @@ use table::Verdict;
 
 fn begin(v: Verdict) {
     match v {
-        Verdict::Nodes(n) => lines::begin(0, n),
+        Verdict::Accepted(n) => lines::begin(0, n),
         Verdict::Refused { code, place } => lines::begin(code, place),
     }
 }

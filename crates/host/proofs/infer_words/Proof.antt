@@ -5,32 +5,32 @@ use borrow.Author.Needs.{needs}
 use Rattle.host.proofs.infer_words.Statement.{statement}
 use Rattle.host.proofs.infer_words.Tie as tie
 
-smaller-requires : tie.Need-smaller-requires
-smaller-requires c κs = search needs
+out-words-requires : tie.Need-out-words-requires
+out-words-requires c κs = search needs
 
 slice-aggregate-infer-on : tie.Need-slice-aggregate-infer-on
 slice-aggregate-infer-on c = search needs
 
 array-borrow-prefix-types : tie.Need-array-borrow-prefix-types
-array-borrow-prefix-types c = room-few (c .before .before .before .before .args .out .now) (c .before .smaller .ensures)
+array-borrow-prefix-types c = room-few (c .before .before .before .before .args .out .now) (c .before .out-words .ensures)
 
 slice-aggregate-infer-on-2 : tie.Need-slice-aggregate-infer-on-2
-slice-aggregate-infer-on-2 c = sym (room-lent (c .before .before .before .before .before .args .out .now) (c .before .before .smaller .ensures))
+slice-aggregate-infer-on-2 c = sym (room-lent (c .before .before .before .before .before .args .out .now) (c .before .before .out-words .ensures))
 
 infer-on-requires : tie.Need-infer-on-requires
-infer-on-requires c κs = out-room (c .before .before .before .before .before .before .args .out .now) (c .before .before .before .smaller .ensures)
+infer-on-requires c κs = out-room (c .before .before .before .before .before .before .args .out .now) (c .before .before .before .out-words .ensures)
 
 same-length : tie.Need-same-length
 same-length c = search needs
 
 returns : tie.Need-returns
-returns c = infers-on (c .before .before .before .before .before .before .before .before .before .before .before .args .out .now) (c .before .before .before .before .before .before .before .before .smaller .ensures) (c .before .before .before .before .infer-on .ensures)
+returns c = infers-on (c .before .before .before .before .before .before .before .before .before .before .before .args .out .now) (c .before .before .before .before .before .before .before .before .out-words .ensures) (c .before .before .before .before .infer-on .ensures)
 
 pub infer-words-spec : {M : Type 1} → statement M
 infer-words-spec =
     tie.close
     (tie.spec
-    smaller-requires
+    out-words-requires
     slice-aggregate-infer-on
     array-borrow-prefix-types
     slice-aggregate-infer-on-2

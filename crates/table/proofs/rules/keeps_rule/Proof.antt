@@ -5,7 +5,8 @@ use mathlib.Core.Logic.{inl, inr}
 use native.Mathlib.Omega.{arith}
 use borrow.Author.Needs.{needs}
 use borrow.Author.Tests.{lt-ltb, le-ltb}
-use Rattle.table.specs.RuleLaws.{not-this, rule-of-unknown, rule-of-lambda-or-rec}
+use Rattle.language.specs.NumberLaws.{not-this}
+use Rattle.table.specs.RuleLaws.{rule-of-unknown, rule-of-lambda-or-rec}
 use Rattle.table.specs.Refusals.{fitsRule}
 use Rattle.table.proofs.rules.keeps_rule.Statement.{statement}
 use Rattle.table.proofs.rules.keeps_rule.Tie as tie
