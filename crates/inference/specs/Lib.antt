@@ -1,5 +1,6 @@
 -- Inference's code against the typing rules: what the words of its cells stand for, what its parts do, and what it answers. Start at
--- `Inference` and `InferenceOnce`.
+-- `Inference` and `Promises`.
+pub mod Promises
 -- Definitions.
 pub mod Layout
 pub mod Count
@@ -32,5 +33,6 @@ pub mod Principality
 pub mod InferCall
 pub mod Textbook
 pub mod InferenceOnce
+pub mod AcceptsExactly
 pub mod TypeWithin
 pub mod Examples

@@ -48,7 +48,7 @@ module _ (words work out : List ℕ) where
   -- ---- It may be given
 
   module _ {n : ℕ} (v : checkOf words ≡ Accepted n) where
-    right-type-inferred : RightType (expOf words) (inferred (nodeAt words) n)
+    pub right-type-inferred : RightType (expOf words) (inferred (nodeAt words) n)
     right-type-inferred =
         let checked = accepted-is-checked words n v in
         subst (λ count. RightType (expAt (nodeAt words) count 0) (inferred (nodeAt words) n)) (sym (count-is checked)) (inferred-right (checked .tree))

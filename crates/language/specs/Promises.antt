@@ -5,7 +5,7 @@ use mathlib.Core.Logic.{_↔_, _⊎_}
 use mathlib.Core.Bool.{true}
 use mathlib.Core.List.{List}
 use lib.IntN.{ℤ}
-use Rattle.language.specs.Expression.{Name, Operator, Exp, Value, Closed}
+use Rattle.language.specs.Expression.{Name, Operator, Exp, Value, Free, Closed}
 use Rattle.language.specs.Integers.{number, inRange, meaning}
 use Rattle.language.specs.Substitution.{sub}
 use Rattle.language.specs.FinalSubstitution.{Final}
@@ -37,7 +37,11 @@ values-do-not-step = Determinism.values-do-not-step
 steps-are-deterministic : {e : Exp} {r r′ : Result} → Step e r → Step e r′ → r ≡ r′
 steps-are-deterministic = Determinism.steps-are-deterministic
 
--- Lemma 4: a closed expression stays closed.
+-- Lemma 4: a step brings no new free names.
+step-frees-nothing : {e e′ : Exp} → Step e (next e′) → (y : Name) → Free y e′ → Free y e
+step-frees-nothing = ClosedSteps.step-frees-nothing
+
+-- So a closed expression stays closed.
 steps-stay-closed : {e e′ : Exp} → Steps e e′ → Closed e → Closed e′
 steps-stay-closed = ClosedSteps.steps-stay-closed
 

@@ -60,6 +60,6 @@ module _ {words : List ℕ} {n : ℕ} (checked : Checked words n) where
       → ¬ (next (nodeAt words) (evaluate k η frames) ≡ at-end e)
   names-are-found = InScopeLaws.names-are-found (checked .tree)
 
--- (e) Every run answers exactly one of 10 to 19, with counts that are the machine's: `runTable` is a function.
+-- (e) The code of an answer is one of 10 to 19.
 answers-10-to-19 : (a : DefinedAnswer) → (10 ≤ code a) × (code a ≤ 19)
 answers-10-to-19 = TableRuns.answers-10-to-19

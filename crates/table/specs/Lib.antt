@@ -7,6 +7,7 @@ pub mod Node
 pub mod Walk
 pub mod Scope
 pub mod Refusals
+pub mod RefusedFor
 pub mod ExpressionOf
 pub mod Tree
 pub mod Reading
@@ -17,6 +18,7 @@ pub mod ExpressionLaws
 pub mod Times
 pub mod Fitting
 pub mod Accepted
+pub mod RefusalsExactly
 pub mod ClosedFormula
 -- What the code computes.
 pub mod SearchLoop

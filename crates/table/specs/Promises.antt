@@ -9,20 +9,30 @@ use Rattle.language.specs.Expression.{Name, Free, Closed}
 use Rattle.table.specs.Node.{Nodes, Field, Kid}
 use Rattle.table.specs.Walk.{climb}
 use Rattle.table.specs.Scope.{scope, firstNamed}
-use Rattle.table.specs.Refusals.{checkOf}
+use Rattle.table.specs.Refusals.{checkOf, checkCode, checkPlace}
+use Rattle.table.specs.RefusedFor.{RefusedFor}
 use Rattle.table.specs.ExpressionOf.{shape, expAt, expOf}
 use Rattle.table.specs.Tree.{Tree, Checked}
 use Rattle.table.specs.TreeLaws as TreeLaws
 use Rattle.table.specs.ExpressionLaws as ExpressionLaws
 use Rattle.table.specs.Accepted as Accepted
+use Rattle.table.specs.RefusalsExactly as RefusalsExactly
 use Rattle.table.specs.ClosedFormula as ClosedFormula
 use Rattle.table.specs.declared.Verdict.the-variants.{Accepted as Accepts}
 
--- ---- What code 0 means
+-- ---- What the codes mean
 
 -- The check accepts a table with n nodes exactly if its length, its fields, its tree and its names are in order.
 accepts-exactly-checked : (words : List ℕ) (n : ℕ) → (checkOf words ≡ Accepts n) ↔ Checked words n
 accepts-exactly-checked words n = (Accepted.accepted-is-checked words n, Accepted.checked-is-accepted words n)
+
+-- The same in the paper's numbers: code 0, with the node count as its place.
+code-0-exactly : (words : List ℕ) (n : ℕ) → ((checkCode (checkOf words) ≡ 0) × (checkPlace (checkOf words) ≡ n)) ↔ Checked words n
+code-0-exactly = RefusalsExactly.code-0-exactly
+
+-- Every other code is answered exactly in its case, and with its place.
+codes-1-to-4-exactly : (words : List ℕ) (code place : ℕ) → 0 < code → ((checkCode (checkOf words) ≡ code) × (checkPlace (checkOf words) ≡ place)) ↔ RefusedFor words code place
+codes-1-to-4-exactly = RefusalsExactly.codes-1-to-4-exactly
 
 -- ---- A checked table as a tree
 

@@ -102,3 +102,14 @@ checkNodes words nd n =
 
 unfoldable pub checkOf : List ℕ → Verdict
 checkOf words = refuseAt 1 (miscount (length words)) (checkNodes words (nodeAt words) (countOf words))
+
+-- ---- The paper's numbers
+
+abbrev pub checkCode : Verdict → ℕ
+checkCode (Accepted n) = 0
+checkCode (Refused code place) = code
+
+-- The place of acceptance is the node count.
+abbrev pub checkPlace : Verdict → ℕ
+checkPlace (Accepted n) = n
+checkPlace (Refused code place) = place
