@@ -1,4 +1,4 @@
--- The bench formulas P1 to P12, with what the scope states of each.
+-- The bench formulas P1 to P12, with what the scope states of each; then a row for each code of a run that none of them gives.
 use Prim.Native.Nat.{ℕ}
 use mathlib.Core.List.{List, [], _∷_}
 use lib.IntN.{pos, negℤ}
@@ -14,8 +14,11 @@ typesIn out table stated = record { table = table; call = inference out; stated 
 abbrev types : List ℕ → List ℕ → Row
 types table stated = typesIn 64 table stated
 
+abbrev runsWith : ℕ → ℕ → ℕ → List ℕ → List ℕ → Row
+runsWith fuel bindings frames table stated = record { table = table; call = run fuel bindings frames; stated = stated }
+
 abbrev runsIn : ℕ → ℕ → List ℕ → List ℕ → Row
-runsIn fuel bindings table stated = record { table = table; call = run fuel bindings 512; stated = stated }
+runsIn fuel bindings table stated = runsWith fuel bindings 512 table stated
 
 abbrev runs : List ℕ → List ℕ → Row
 runs table stated = runsIn 100000 512 table stated
@@ -121,6 +124,16 @@ operation operator m n =
 abbrev p12 : List ℕ
 p12 = 4 ∷ 0 ∷ 0 ∷ 0 ∷ []
 
+-- + (if 1 then 2 else 3)
+abbrev if-on-integer : List ℕ
+if-on-integer =
+    5 ∷ 1 ∷ 2 ∷ 0 ∷
+    3 ∷ 0 ∷ 0 ∷ 0 ∷
+    6 ∷ 3 ∷ 4 ∷ 5 ∷
+    2 ∷ 1 ∷ 0 ∷ 0 ∷
+    2 ∷ 2 ∷ 0 ∷ 0 ∷
+    2 ∷ 3 ∷ 0 ∷ 0 ∷ []
+
 -- ---- The table
 
 unfoldable pub formulas : List Row
@@ -161,4 +174,9 @@ formulas =
     runs (operation 2 65536 32767) (10 ∷ 2147418112 ∷ []) ∷
     -- P12: node 0 has a name without a binder, for inference and for the run.
     types p12 (4 ∷ 0 ∷ []) ∷
-    runs p12 (4 ∷ 0 ∷ []) ∷ []
+    runs p12 (4 ∷ 0 ∷ []) ∷
+    -- 11: true. 12: unit. 16 at an if: node 2 after 5 steps. 19: one frame is too few for P1.
+    runs (1 ∷ 1 ∷ 0 ∷ 0 ∷ []) (11 ∷ 1 ∷ 1 ∷ 0 ∷ []) ∷
+    runs (0 ∷ 0 ∷ 0 ∷ 0 ∷ []) (12 ∷ 0 ∷ 1 ∷ 0 ∷ []) ∷
+    runs if-on-integer (16 ∷ 2 ∷ 5 ∷ 0 ∷ []) ∷
+    runsWith 100000 512 1 p1 (19 ∷ 0 ∷ 6 ∷ 1 ∷ []) ∷ []

@@ -34,8 +34,9 @@ pub mod Unification
 pub mod MostGeneral
 pub mod Elimination
 pub mod UnificationCorrect
--- Worked examples of the lecture notes.
+-- Worked examples, most of them the lecture notes' own.
 pub mod Notation
 pub mod StepExamples
 pub mod TypingExamples
 pub mod UnificationExamples
+pub mod WordExamples

@@ -2,9 +2,10 @@
 use Prim.Native.Nat.{ℕ}
 use mathlib.Core.Path.{_≡_, refl}
 use mathlib.Core.List.{List, [], _∷_}
+use mathlib.Core.Bool.{true, false}
 use mathlib.Core.Option.{some}
 use lib.IntN.{pos}
-use Rattle.language.specs.Expression.{plus, integer, operator, constant, name, app, lambda}
+use Rattle.language.specs.Expression.{plus, boolean, integer, operator, constant, name, app, if-then-else, lambda}
 use Rattle.table.specs.Node.{nodeOf, nodeAt}
 use Rattle.table.specs.Walk.{climbFrom}
 use Rattle.table.specs.Scope.{firstNamed, binderOf, scope}
@@ -35,6 +36,11 @@ p1-expression = refl
 p1-binder : binderOf (nodeAt p1) 5 ≡ some 1
 unfolding p1 nodeAt nodeOf firstNamed climbFrom
 p1-binder = refl
+
+-- P6: if true then 1 else false
+p6-expression : expOf (6 ∷ 1 ∷ 2 ∷ 3 ∷ 1 ∷ 1 ∷ 0 ∷ 0 ∷ 2 ∷ 1 ∷ 0 ∷ 0 ∷ 1 ∷ 0 ∷ 0 ∷ 0 ∷ []) ≡ if-then-else (constant (boolean true)) (constant (integer (pos 1))) (constant (boolean false))
+unfolding expFrom nodeAt nodeOf
+p6-expression = refl
 
 -- P12: a name alone has no binder.
 p12-refused : checkOf (4 ∷ 0 ∷ 0 ∷ 0 ∷ []) ≡ Refused 4 0
