@@ -17,6 +17,13 @@
    Names are 0 to 65,535. A child is given by its node's number, which is greater than its parent's; every node but 0 is a child exactly
    once. A name is bound by the nearest enclosing lambda, let or rec of that name, a let's in its body only.
 
+   Integers are -2147483648 to 2147483647. A result of + - * / outside that range ends the run with overflow, and so does the least
+   integer / -1; a zero divisor of / or mod ends it with division by zero. Division cuts towards zero and mod has the sign of the
+   dividend: / -7 2 is -3, mod -7 2 is -1. The least integer mod -1 is 0.
+
+   Each lambda, let and rec name has one type in its scope: let is not polymorphic, so that let i = fun x -> x in if i true then i 1
+   else 0 has no type.
+
    Each call answers one number: the code in its low 8 bits, the place or payload in its high 32, zero between. iltgovruz_code and
    iltgovruz_payload take it apart.
 
@@ -63,10 +70,11 @@ enum {
     ILTGOVRUZ_FUNCTION = 13,
     ILTGOVRUZ_DIVISION_BY_ZERO = 14,
     ILTGOVRUZ_OVERFLOW = 15,
-    ILTGOVRUZ_STUCK = 16,            /* payload: the application or if node. No formula with a type gets stuck */
+    ILTGOVRUZ_STUCK = 16,            /* payload: the application or if node. The formula has no value: a host takes this as a
+                                        refusal of it. No formula that iltgovruz_infer answers with 0 gets stuck */
     ILTGOVRUZ_NO_FUEL = 17,          /* as many steps as `fuel` were made */
-    ILTGOVRUZ_NO_BINDINGS = 18,      /* all 512 bindings are in use */
-    ILTGOVRUZ_NO_FRAMES = 19         /* all 512 frames are in use */
+    ILTGOVRUZ_NO_BINDINGS = 18,      /* 512 bindings have been made, and one more is needed */
+    ILTGOVRUZ_NO_FRAMES = 19         /* 512 frames are in use, and one more is needed */
 };
 
 /* The most general type of a formula: codes 0 to 7.
