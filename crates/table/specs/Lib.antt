@@ -10,6 +10,7 @@ pub mod Refusals
 pub mod ExpressionOf
 pub mod Tree
 pub mod Reading
+pub mod WordsOf32Bits
 -- A checked table as a tree.
 pub mod FirstFrom
 pub mod TreeLaws
@@ -18,6 +19,7 @@ pub mod Times
 pub mod Fitting
 pub mod Accepted
 pub mod ClosedFormula
+pub mod RefusedPlaces
 -- What the code computes.
 pub mod SearchLoop
 pub mod Parents
