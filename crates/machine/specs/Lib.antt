@@ -6,6 +6,8 @@ pub mod Decode
 pub mod Steps
 pub mod Runs
 pub mod Executing
+pub mod CodeTells
+pub mod CallReaches
 -- What the words stand for, and what a move changes.
 pub mod StoreLaws
 pub mod DecodeLaws
@@ -21,3 +23,5 @@ pub mod Clearing
 pub mod RunCall
 pub mod SameNumbers
 pub mod NeverStuck
+pub mod FormulaInRange
+pub mod CallEnds
