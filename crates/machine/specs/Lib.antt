@@ -1,4 +1,6 @@
--- The machine's code against its definition: what the words of its stores stand for, and what the code answers.
+-- The machine's code against its definition: what the words of its stores stand for, and what the code answers. `Promises` is the page to
+-- start from.
+pub mod Promises
 -- Definitions.
 pub mod Stores
 pub mod Answers
@@ -25,3 +27,6 @@ pub mod SameNumbers
 pub mod NeverStuck
 pub mod FormulaInRange
 pub mod CallEnds
+pub mod CodeMeans
+pub mod CallLimits
+pub mod AnswerNodes

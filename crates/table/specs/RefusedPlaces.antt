@@ -4,6 +4,7 @@ use mathlib.Core.Path.{_≡_, refl, sym, _∙_, subst}
 use mathlib.Core.Bool.{Bool, true, false, not, cond}
 use mathlib.Core.List.{List}
 use mathlib.Core.Option.{Option, none, some}
+use native.Mathlib.Decide.{ℕ-discrete}
 use native.Mathlib.Omega.{arith}
 use lib.ListN.{length}
 use Rattle.table.specs.Node.{nodeAt}
@@ -13,10 +14,24 @@ use Rattle.table.specs.Accepted.{right-count}
 use Rattle.table.specs.declared.Verdict.{Verdict}
 use Rattle.table.specs.declared.Verdict.the-variants.{Accepted, Refused}
 
--- A code of the check with its place, in a table of n nodes.
-pub data RefusedPlace (n : ℕ) : ℕ → ℕ → Type 0 where
-  wrong-length : RefusedPlace n 1 0
-  at-node : {code place : ℕ} → 2 ≤ code → code ≤ 4 → place < n → n ≤ 512 → RefusedPlace n code place
+-- What a code of the check and its place say, in a table of n nodes.
+pub record RefusedPlace (n code place : ℕ) : Type 0 where
+  pub code-1-to-4 : (1 ≤ code) × (code ≤ 4)
+  pub place-0-of-code-1 : code ≡ 1 → place ≡ 0
+  pub place-is-node : 2 ≤ code → (place < n) × (n ≤ 512)
+
+wrong-length : {n : ℕ} → RefusedPlace n 1 0
+wrong-length = record { code-1-to-4 = omega arith; place-0-of-code-1 = λ one. refl; place-is-node = λ second. absurd (omega arith) }
+
+at-node : {n code place : ℕ} → 2 ≤ code → code ≤ 4 → place < n → n ≤ 512 → RefusedPlace n code place
+at-node low high below few = record { code-1-to-4 = omega arith; place-0-of-code-1 = λ one. absurd (omega arith); place-is-node = λ second. (below, few) }
+
+pub place-below-512 : {n code place : ℕ} → RefusedPlace n code place → place < 512
+place-below-512 {code = code} {place = place} refused = go (ℕ-discrete code 1)
+  where
+    go : Dec (code ≡ 1) → place < 512
+    go (yes one) = omega (arith, refused .place-0-of-code-1 one)
+    go (no more) = let node = refused .place-is-node (omega (arith, refused .code-1-to-4)) in omega arith
 
 -- The place that a test finds is one of those that it looked at.
 first-below : (bad : ℕ → Bool) (count at : ℕ) {k : ℕ} → firstFrom bad count at ≡ some k → k < at + count
