@@ -33,4 +33,5 @@ pub mod InferCall
 pub mod Textbook
 pub mod InferenceOnce
 pub mod TypeWithin
+pub mod AnswerPlaces
 pub mod Examples
