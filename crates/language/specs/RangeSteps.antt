@@ -1,11 +1,11 @@
 -- Steps keep all integers of an expression in range: substitution brings in none but those of what it puts in, and an operator's result is in range.
 use Prim.Native.Nat.{ℕ}
-use mathlib.Core.Path.{_≡_, refl, sym, subst}
+use mathlib.Core.Path.{_≡_, refl, subst}
 use mathlib.Core.Bool.{Bool, true, false, cond}
 use native.Mathlib.Omega.{arith}
 use lib.Dec.{eqb}
 use lib.IntN.{ℤ}
-use Rattle.language.specs.Expression.{Name, Operator, integer, boolean, Exp, constant, name, app, if-then-else, lambda, let-in, rec}
+use Rattle.language.specs.Expression.{Name, integer, boolean, Exp, constant, name, app, if-then-else, lambda, let-in, rec}
 use Rattle.language.specs.Integers.{Outcome, number, truth, exception, inRange, meaning}
 use Rattle.language.specs.IntegerLaws.{meaning-in-range}
 use Rattle.language.specs.Substitution.{sub}

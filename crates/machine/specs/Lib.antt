@@ -29,4 +29,4 @@ pub mod FormulaInRange
 pub mod CallEnds
 pub mod CodeMeans
 pub mod CallLimits
-pub mod AnswerNodes
+pub mod AnswerNumbers
