@@ -18,11 +18,13 @@ use Rattle.table.specs.declared.Verdict.the-variants.{Accepted}
 use Rattle.semantics.specs.Answer.{exception-answer, code, payload}
 use Rattle.semantics.specs.Reached.{answerFor}
 use Rattle.machine.specs.CodeTells.{Tells, RanOut}
-use Rattle.host.specs.Entries.{packed, InferEntry, RunEntry}
+use Rattle.inference.specs.Inference.{codeOf as inferredCode}
+use Rattle.host.specs.Entries.{packed, InfersOn, InferEntry, RunEntry}
 use Rattle.host.specs.BytesOf8Bits.{BytesOf8Bits}
 use Rattle.host.specs.EntryReaches.{EntryReaches}
 use Rattle.host.specs.EntriesOnce as EntriesOnce
 use Rattle.host.specs.Parts as Parts
+use Rattle.host.specs.EnoughWork as EnoughWork
 use Rattle.host.specs.Loaded as Loaded
 use Rattle.host.specs.EntryPlaces as EntryPlaces
 use Rattle.host.specs.EntryEnds as EntryEnds
@@ -49,6 +51,10 @@ entry-place-below-512 = EntryPlaces.entry-place-below-512
 
 entry-payload-below-512 : {table : List ℕ} {fuel r : ℕ} → RunEntry table fuel r → r % 256 ≢ 10 → r / 4294967296 < 512
 entry-payload-below-512 = EntryPlaces.entry-payload-below-512
+
+-- The inference entry's work is always enough.
+never-work-short : {words out out′ : List ℕ} {r : ℕ} (i : InfersOn words out out′ r) → inferredCode (i .after .answer) ≢ 5
+never-work-short = EnoughWork.never-work-short
 
 -- A formula that inference answers with 0 never makes the run entry answer 16, at any fuel.
 loaded-never-stuck : {table out out′ : List ℕ} {i fuel r : ℕ} → InferEntry table out out′ i → i % 256 ≡ 0 → RunEntry table fuel r → r % 256 ≢ 16

@@ -24,9 +24,9 @@ pub mod RunLaws
 pub mod Clearing
 pub mod RunCall
 pub mod SameNumbers
-pub mod NeverStuck
 pub mod FormulaInRange
 pub mod CallEnds
+pub mod NeverStuck
 pub mod CodeMeans
 pub mod CallLimits
 pub mod AnswerNumbers
