@@ -1,21 +1,16 @@
--- The parts of an answer can be told: the code in the low 8 bits, the place or payload in the high 32, zero between.
+-- The parts of an answer can be told: the code in the low 8 bits, the place or payload in the high 32, zero between. So an answer is
+-- nothing but its code and its high half.
 use Prim.Native.Nat.{ℕ, _/_, _%_, _<_}
 use mathlib.Core.Path.{_≡_, refl}
 use mathlib.Core.List.{List}
 use native.Mathlib.Omega.{arith}
-use lib.ListN.{length}
-use Rattle.table.specs.Refusals.{checkOf}
-use Rattle.table.specs.declared.Verdict.{Verdict}
-use Rattle.table.specs.declared.Verdict.the-variants.{Accepted, Refused as Turned}
-use Rattle.semantics.specs.Answer.{DefinedAnswer, RunAnswer, runTable}
-use Rattle.semantics.specs.TableRuns.{answers-10-to-19}
-use Rattle.inference.specs.Inference.{After, Infers, codeOf as inferredCode, placeOf, turned, work-short, no-type, out-short, typed}
-use Rattle.inference.specs.InferenceOnce.{true-of-refusal-code}
-use Rattle.machine.specs.Answers.{asAnswer, asRan, codeOf, payloadOf}
-use Rattle.machine.specs.Runs.{capacityOf, RunIs, runAfter}
-use Rattle.machine.specs.SameNumbers.{same-numbers}
+use Rattle.inference.specs.Inference.{After, Infers, codeOf as inferredCode, placeOf}
+use Rattle.inference.specs.AnswerPlaces.{inferred-place}
+use Rattle.machine.specs.Answers.{codeOf, payloadOf}
+use Rattle.machine.specs.Runs.{RunIs}
+use Rattle.machine.specs.AnswerNumbers.{code-at-most-19}
 use Rattle.machine.specs.declared.Ran.{Ran}
-use Rattle.host.specs.Entries.{packed, InfersTo, RunsTo}
+use Rattle.host.specs.Entries.{packed, part-of-a-node, whole-nodes, InfersTo, InferEntry, RunsTo, RunEntry}
 
 pub record Parts (r code payload : ℕ) : Type 0 where
   pub low : r % 256 ≡ code
@@ -25,27 +20,16 @@ pub record Parts (r code payload : ℕ) : Type 0 where
 parts-of-packed : {r code payload : ℕ} → r ≡ packed code payload → code < 256 → Parts r code payload
 parts-of-packed is small = record { low = omega arith; between = omega arith; high = omega arith }
 
+pub whole-of-parts : {r code payload : ℕ} → Parts r code payload → r ≡ packed code payload
+whole-of-parts parts = omega (arith, parts .low, parts .between, parts .high)
+
 -- ---- No code has more than 8 bits
 
-refusal-code-small : (words : List ℕ) {code place : ℕ} → checkOf words ≡ Turned code place → code < 256
-refusal-code-small = true-of-refusal-code (λ code. code < 256) (omega arith) (omega arith) (omega arith) (omega arith)
-
 inferred-code-small : {words work out : List ℕ} {a : After} → Infers words work out a → inferredCode (a .answer) < 256
-inferred-code-small {words} (turned v is) = rw is (refusal-code-small words v)
-inferred-code-small (work-short v short is) = rw is (omega arith)
-inferred-code-small (no-type v enough untyped is) = rw is (omega arith)
-inferred-code-small (out-short v enough p short is) = rw is (omega arith)
-inferred-code-small (typed v enough p fits is) = rw is (omega arith)
-
-answer-code-small : (a : DefinedAnswer) → codeOf (asAnswer a) < 256
-answer-code-small a = omega (arith, same-numbers a .0, answers-10-to-19 a .1)
+inferred-code-small i = omega (arith, inferred-place i .at-most-7)
 
 run-code-small : {words bindings frames bindings′ frames′ : List ℕ} {fuel : ℕ} {ran : Ran} → RunIs words fuel bindings frames bindings′ frames′ ran → codeOf (ran .answer) < 256
-run-code-small {words} {bindings} {frames} {fuel = fuel} x = rw (x .answer) (go (runTable words (record { fuel = fuel; bindings = capacityOf (length bindings); frames = capacityOf (length frames) })) (checkOf words) refl)
-  where
-    go : (defined : RunAnswer) (v : Verdict) → checkOf words ≡ v → codeOf (runAfter v (asRan defined) .answer) < 256
-    go defined (Accepted n) e = answer-code-small (defined .answer)
-    go defined (Turned code place) e = refusal-code-small words e
+run-code-small x = omega (arith, code-at-most-19 x)
 
 -- ---- The entries' answers
 
@@ -54,3 +38,14 @@ infer-parts i = parts-of-packed (i .number) (inferred-code-small (i .infers))
 
 pub run-parts : {words : List ℕ} {fuel r : ℕ} (i : RunsTo words fuel r) → Parts r (codeOf (i .ran .answer)) (payloadOf (i .ran .answer))
 run-parts i = parts-of-packed (i .number) (run-code-small (i .runs))
+
+its-parts : {r code payload : ℕ} → Parts r code payload → r ≡ packed (r % 256) (r / 4294967296)
+its-parts parts = whole-of-parts (record { low = refl; between = parts .between; high = refl })
+
+pub infer-is-its-parts : {table out out′ : List ℕ} {r : ℕ} → InferEntry table out out′ r → r ≡ packed (r % 256) (r / 4294967296)
+infer-is-its-parts (part-of-a-node p (is, _)) = omega arith
+infer-is-its-parts (whole-nodes p inferred) = its-parts (infer-parts inferred)
+
+pub run-is-its-parts : {table : List ℕ} {fuel r : ℕ} → RunEntry table fuel r → r ≡ packed (r % 256) (r / 4294967296)
+run-is-its-parts (part-of-a-node p is) = omega arith
+run-is-its-parts (whole-nodes p ran) = its-parts (run-parts ran)

@@ -35,4 +35,5 @@ pub mod Textbook
 pub mod InferenceOnce
 pub mod AcceptsExactly
 pub mod TypeWithin
+pub mod AnswerPlaces
 pub mod Examples

@@ -10,12 +10,14 @@ pub mod Substitution
 pub mod FinalSubstitution
 pub mod SmallStep
 pub mod Move
+pub mod AllInRange
 -- What is true of them.
 pub mod IntegerLaws
 pub mod NumberLaws
 pub mod MoveDecides
 pub mod Determinism
 pub mod ClosedSteps
+pub mod RangeSteps
 pub mod NaiveIsFinal
 -- Types.
 pub mod Ty

@@ -11,6 +11,7 @@ use Rattle.language.specs.Substitution.{sub}
 use Rattle.language.specs.FinalSubstitution.{Final}
 use Rattle.language.specs.SmallStep.{Result, next, Step, NoStep, Stuck, Steps}
 use Rattle.language.specs.Move.{move, steps, value, stuck}
+use Rattle.language.specs.AllInRange.{AllInRange}
 use Rattle.language.specs.Ty.{Ty, Subst, apply, Instance}
 use Rattle.language.specs.Environment.{Env, empty}
 use Rattle.language.specs.Typing.{Has, applyEnv}
@@ -22,6 +23,7 @@ use Rattle.language.specs.MoveDecides as MoveDecides
 use Rattle.language.specs.Determinism as Determinism
 use Rattle.language.specs.ClosedSteps as ClosedSteps
 use Rattle.language.specs.NaiveIsFinal as NaiveIsFinal
+use Rattle.language.specs.RangeSteps as RangeSteps
 use Rattle.language.specs.TypingLaws as TypingLaws
 use Rattle.language.specs.Safety as Safety
 use Rattle.language.specs.WrittenFormLaws as WrittenFormLaws
@@ -62,6 +64,13 @@ move-decides-stuck e = (MoveDecides.move-is-stuck e, MoveDecides.stuck-is-move)
 -- Numbers that are computed from numbers in range are in range.
 meaning-in-range : (o : Operator) (m n : ℤ) {z : ℤ} → inRange m ≡ true → inRange n ≡ true → meaning o m n ≡ number z → inRange z ≡ true
 meaning-in-range = IntegerLaws.meaning-in-range
+
+-- So the integers of an expression stay in range: if all that stand in it are, the integer that it comes to is.
+integers-stay-in-range : {e e′ : Exp} → Steps e e′ → AllInRange e → AllInRange e′
+integers-stay-in-range = RangeSteps.steps-stay-in-range
+
+computed-integer-in-range : {e : Exp} {n : ℤ} → Steps e (constant (integer n)) → AllInRange e → inRange n ≡ true
+computed-integer-in-range = RangeSteps.steps-stay-in-range
 
 -- ---- Types
 

@@ -1,4 +1,6 @@
--- The machine's code against its definition: what the words of its stores stand for, and what the code answers.
+-- The machine's code against its definition: what the words of its stores stand for, and what the code answers. `Promises` is the page to
+-- start from.
+pub mod Promises
 -- Definitions.
 pub mod Stores
 pub mod Answers
@@ -6,6 +8,8 @@ pub mod Decode
 pub mod Steps
 pub mod Runs
 pub mod Executing
+pub mod CodeTells
+pub mod CallReaches
 -- What the words stand for, and what a move changes.
 pub mod StoreLaws
 pub mod DecodeLaws
@@ -20,4 +24,9 @@ pub mod RunLaws
 pub mod Clearing
 pub mod RunCall
 pub mod SameNumbers
+pub mod FormulaInRange
+pub mod CallEnds
 pub mod NeverStuck
+pub mod CodeMeans
+pub mod CallLimits
+pub mod AnswerNumbers

@@ -11,6 +11,7 @@ pub mod RefusedFor
 pub mod ExpressionOf
 pub mod Tree
 pub mod Reading
+pub mod WordsOf32Bits
 -- A checked table as a tree.
 pub mod FirstFrom
 pub mod TreeLaws
@@ -20,6 +21,7 @@ pub mod Fitting
 pub mod Accepted
 pub mod RefusalsExactly
 pub mod ClosedFormula
+pub mod RefusedPlaces
 -- What the code computes.
 pub mod SearchLoop
 pub mod Parents
