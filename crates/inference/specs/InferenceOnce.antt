@@ -2,50 +2,24 @@
 -- its case.
 use Prim.Native.Nat.{ℕ, _≤_, _<_}
 use mathlib.Core.Path.{_≡_, refl, sym, _∙_, ap, subst}
-use mathlib.Core.Bool.{not}
 use mathlib.Core.List.{List, [], _∷_}
 use mathlib.Core.Logic.{_↔_}
-use mathlib.Core.Option.{Option, none, some}
 use lib.ListN.{length, getD}
 use Rattle.language.specs.Ty.{Ty}
 use Rattle.language.specs.Environment.{empty}
 use Rattle.language.specs.Typing.{Has}
 use Rattle.language.specs.Principal.{Principal}
 use Rattle.language.specs.WrittenForm.{wordsOf}
-use Rattle.table.specs.Node.{nodeAt}
-use Rattle.table.specs.Refusals.{miscount, countOf, fits, misplaced, unbound, firstFrom, refuseAt, checkOf}
+use Rattle.table.specs.Refusals.{checkOf}
+use Rattle.table.specs.RefusedFor.{RefusedFor, for-its-count, for-a-rule, for-a-parent, for-a-name}
+use Rattle.table.specs.RefusalsExactly.{refused-for}
 use Rattle.table.specs.ExpressionOf.{expOf}
-use Rattle.table.specs.declared.Verdict.{Verdict}
-use Rattle.table.specs.declared.Verdict.the-variants.{Accepted, Refused as Turned}
+use Rattle.table.specs.declared.Verdict.the-variants.{Accepted}
 use Rattle.inference.specs.Inference.{codeOf, workFor, After, Infers, turned, work-short, no-type, out-short, typed}
 use Rattle.inference.specs.Textbook.{infers-textbook}
 
 pub infers-once : {words work out : List ℕ} {a b : After} → Infers words work out a → Infers words work out b → a ≡ b
 infers-once i j = infers-textbook i ∙ sym (infers-textbook j)
-
--- ---- The check's codes
-
-module _ (P : ℕ → Type 0) (p₁ : P 1) (p₂ : P 2) (p₃ : P 3) (p₄ : P 4) where
-  abbrev OfItsCode : Verdict → Type 0
-  OfItsCode (Accepted n) = Unit {0}
-  OfItsCode (Turned code place) = P code
-
-  first-fault-decides : (f₁ f₂ f₃ f₄ : Option ℕ) (n : ℕ) → OfItsCode (refuseAt 1 f₁ (refuseAt 2 f₂ (refuseAt 3 f₃ (refuseAt 4 f₄ (Accepted n)))))
-  first-fault-decides (some k) f₂ f₃ f₄ n = p₁
-  first-fault-decides none (some k) f₃ f₄ n = p₂
-  first-fault-decides none none (some k) f₄ n = p₃
-  first-fault-decides none none none (some k) n = p₄
-  first-fault-decides none none none none n = tt
-
-  -- What is true of 1 to 4 is true of the code of every refusal.
-  pub true-of-refusal-code : (words : List ℕ) {code place : ℕ} → checkOf words ≡ Turned code place → P code
-  unfolding checkOf
-  true-of-refusal-code words v =
-      let n = countOf words in
-      let misfit = firstFrom (λ k. not (fits words n k)) n 0 in
-      let stray = firstFrom (misplaced (nodeAt words) n) n 0 in
-      let nameless = firstFrom (unbound (nodeAt words)) n 0 in
-      subst OfItsCode v (first-fault-decides (miscount (length words)) misfit stray nameless n)
 
 -- ---- The case of each other code
 
@@ -67,8 +41,14 @@ module _ (words work : List ℕ) where
     abbrev CaseOf : ℕ → Type 0
     CaseOf code = getD (TypeFits ∷ Unit {0} ∷ Unit {0} ∷ Unit {0} ∷ Unit {0} ∷ WorkShort ∷ NoType ∷ OutShort ∷ []) code (Unit {0})
 
+    of-the-check : {code place : ℕ} → RefusedFor words code place → CaseOf code
+    of-the-check (for-its-count _) = tt
+    of-the-check (for-a-rule _ _) = tt
+    of-the-check (for-a-parent _ _ _) = tt
+    of-the-check (for-a-name _ _ _ _) = tt
+
     in-case : {a : After} → Infers words work out a → CaseOf (codeOf (a .answer))
-    in-case (turned v is) = rw is (true-of-refusal-code CaseOf tt tt tt tt words v)
+    in-case (turned v is) = rw is (of-the-check (refused-for words v))
     in-case (work-short {n} v short is) = rw is (n, v, short)
     in-case (no-type {n} v enough untyped is) = rw is (n, v, enough, untyped)
     in-case (out-short {n} {τ} v enough p short is) = rw is (n, τ, v, enough, p, short)

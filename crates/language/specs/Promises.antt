@@ -5,7 +5,7 @@ use mathlib.Core.Logic.{_↔_, _⊎_}
 use mathlib.Core.Bool.{true}
 use mathlib.Core.List.{List}
 use lib.IntN.{ℤ}
-use Rattle.language.specs.Expression.{Name, Operator, Exp, Value, Free, Closed}
+use Rattle.language.specs.Expression.{Name, Operator, integer, Exp, constant, Value, Free, Closed}
 use Rattle.language.specs.Integers.{number, inRange, meaning}
 use Rattle.language.specs.Substitution.{sub}
 use Rattle.language.specs.FinalSubstitution.{Final}

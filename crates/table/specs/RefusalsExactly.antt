@@ -91,7 +91,7 @@ module _ (words : List ℕ) where
   at-place : {code place c p : ℕ} → c ≡ code → p ≡ place → RefusedFor words c p → RefusedFor words code place
   at-place p q r = rw (← p, ← q) r
 
-  refused-for : {code place : ℕ} → checkOf words ≡ Refused code place → RefusedFor words code place
+  pub refused-for : {code place : ℕ} → checkOf words ≡ Refused code place → RefusedFor words code place
   unfolding checkOf
   refused-for {code} {place} is = go (wrongCount (length words)) misfit stray nameless refl refl refl refl is
     where
