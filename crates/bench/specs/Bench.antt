@@ -4,21 +4,12 @@ use Prim.Native.Nat.{ℕ, _≤_}
 use mathlib.Core.Path.{_≡_}
 use mathlib.Core.List.{List, [], _∷_}
 use lib.ListN.{length, take}
-use Rattle.language.specs.Integers.{meaning}
-use Rattle.language.specs.WrittenForm.{occurs, appearing, placeIn, spell, wordsOf}
-use Rattle.lent.specs.Cleared.{zeros}
-use Rattle.table.specs.Node.{nodeOf, nodeAt}
-use Rattle.table.specs.Refusals.{countOf, fitsRule, timesBelow, firstFrom, checkOf}
-use Rattle.semantics.specs.Limits.{runFrom}
-use Rattle.semantics.specs.Machine.{newestBinding}
-use Rattle.semantics.specs.Answer.{runTable}
+use Rattle.table.specs.Refusals.{countOf}
 use Rattle.machine.specs.Answers as Run
-use Rattle.machine.specs.Runs.{capacityOf, ranOf, runAfter, RunIs}
+use Rattle.machine.specs.Runs.{capacityOf, RunIs}
 use Rattle.machine.specs.declared.Ran.{Ran}
-use Rattle.equations.specs.Inferred.{inferred}
 use Rattle.inference.specs.Inference as Inference
 use Rattle.inference.specs.Inference.{workFor, After, Infers}
-use Rattle.inference.specs.Textbook.{textbook}
 use Rattle.inference.specs.declared.Inferred.{Inferred}
 use Rattle.inference.specs.declared.Inferred.the-variants.{Typed, Refused}
 
@@ -75,15 +66,3 @@ Holds row = CallGives (row .table) (row .call) (row .stated)
 abbrev pub Each : {A : Type 0} → (A → Type 0) → List A → Type 0
 Each P [] = Unit {0}
 Each P (x ∷ xs) = P x × Each P xs
-
--- ---- What the definitions compute
-
--- Inference by the textbook's unification, and the run by the machine's definition.
-abbrev pub lineOf : List ℕ → Call → List ℕ
-lineOf words (inference out) = typeLine (textbook words (zeros (workFor (countOf words))) (zeros out))
-lineOf words (run fuel bindings frames) = runLine (runAfter (checkOf words) (ranOf words fuel bindings frames))
-
--- To unfold it is to unfold all that it computes with.
-unfoldable pub computed : Row → List ℕ
-unfolding textbook checkOf fitsRule timesBelow firstFrom inferred nodeAt nodeOf wordsOf spell appearing placeIn occurs runTable runFrom newestBinding meaning
-computed row = asFar (row .stated) (lineOf (row .table) (row .call))

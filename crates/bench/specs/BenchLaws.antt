@@ -11,7 +11,8 @@ use Rattle.table.specs.Accepted.{accepted-is-checked, count-is}
 use Rattle.table.specs.declared.Verdict.the-variants.{Accepted}
 use Rattle.inference.specs.Inference.{workFor, withType, After, Infers, turned, work-short, no-type, out-short, typed}
 use Rattle.inference.specs.Textbook.{infers-textbook}
-use Rattle.bench.specs.Bench.{Call, inference, run, Row, typeLine, asFar, InferenceGives, CallGives, Holds, Each, lineOf, computed}
+use Rattle.bench.specs.Bench.{Call, inference, run, Row, typeLine, asFar, InferenceGives, CallGives, Holds, Each}
+use Rattle.bench.specs.Computed.{lineOf, computed}
 
 -- ---- Inference: of the lent slices, its line depends on the lengths only
 

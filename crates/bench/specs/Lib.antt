@@ -5,4 +5,5 @@ pub mod Bench
 -- The table.
 pub mod Formulas
 -- From the definitions to the calls.
+pub mod Computed
 pub mod BenchLaws

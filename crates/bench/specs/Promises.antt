@@ -1,7 +1,8 @@
 -- The bench formulas P1 to P12: one table, and the single claim that every row of it holds of the calls.
 use mathlib.Core.Path.{_≡_, refl}
 use mathlib.Core.List.{map}
-use Rattle.bench.specs.Bench.{Holds, Each, computed}
+use Rattle.bench.specs.Bench.{Holds, Each}
+use Rattle.bench.specs.Computed.{computed}
 use Rattle.bench.specs.BenchLaws as BenchLaws
 use Rattle.bench.specs.Formulas.{formulas}
 

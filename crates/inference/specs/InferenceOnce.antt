@@ -1,58 +1,38 @@
 -- Nothing of inference's answer is left open: no two answers may be given, and each code of its own, 0 and 5 to 7, is answered exactly in
 -- its case.
-use Prim.Native.Nat.{ℕ, _≤_, _<_}
+use Prim.Native.Nat.{ℕ}
 use mathlib.Core.Path.{_≡_, refl, sym, _∙_, ap, subst}
 use mathlib.Core.List.{List, [], _∷_}
 use mathlib.Core.Logic.{_↔_}
-use lib.ListN.{length, getD}
-use Rattle.language.specs.Ty.{Ty}
-use Rattle.language.specs.Environment.{empty}
-use Rattle.language.specs.Typing.{Has}
-use Rattle.language.specs.Principal.{Principal}
-use Rattle.language.specs.WrittenForm.{wordsOf}
-use Rattle.table.specs.Refusals.{checkOf}
+use lib.ListN.{getD}
 use Rattle.table.specs.RefusedFor.{RefusedFor, for-its-count, for-a-rule, for-a-parent, for-a-name}
 use Rattle.table.specs.RefusalsExactly.{refused-for}
-use Rattle.table.specs.ExpressionOf.{expOf}
-use Rattle.table.specs.declared.Verdict.the-variants.{Accepted}
-use Rattle.inference.specs.Inference.{codeOf, workFor, After, Infers, turned, work-short, no-type, out-short, typed}
+use Rattle.inference.specs.Inference.{codeOf, After, Infers, turned, work-short, no-type, out-short, typed}
+use Rattle.inference.specs.Cases.{WorkShort, NoType, OutShort, TypeFits}
 use Rattle.inference.specs.Textbook.{infers-textbook}
 
 pub infers-once : {words work out : List ℕ} {a b : After} → Infers words work out a → Infers words work out b → a ≡ b
 infers-once i j = infers-textbook i ∙ sym (infers-textbook j)
 
--- ---- The case of each other code
+-- ---- The case of each code of its own
 
-module _ (words work : List ℕ) where
-  abbrev pub WorkShort : Type 0
-  WorkShort = (n : ℕ) × (checkOf words ≡ Accepted n) × (length work < workFor n)
+module _ (words work out : List ℕ) where
+  -- By code; of the check's own codes nothing is claimed here.
+  abbrev CaseOf : ℕ → Type 0
+  CaseOf code = getD (TypeFits words work out ∷ Unit {0} ∷ Unit {0} ∷ Unit {0} ∷ Unit {0} ∷ WorkShort words work ∷ NoType words work ∷ OutShort words work out ∷ []) code (Unit {0})
 
-  abbrev pub NoType : Type 0
-  NoType = (n : ℕ) × (checkOf words ≡ Accepted n) × (workFor n ≤ length work) × ((τ : Ty) → ¬ Has empty (expOf words) τ)
+  of-the-check : {code place : ℕ} → RefusedFor words code place → CaseOf code
+  of-the-check (for-its-count _) = tt
+  of-the-check (for-a-rule _ _) = tt
+  of-the-check (for-a-parent _ _ _) = tt
+  of-the-check (for-a-name _ _ _ _) = tt
 
-  module _ (out : List ℕ) where
-    abbrev pub OutShort : Type 0
-    OutShort = (n : ℕ) × (τ : Ty) × (checkOf words ≡ Accepted n) × (workFor n ≤ length work) × Principal empty (expOf words) τ × (length out < length (wordsOf τ))
-
-    abbrev pub TypeFits : Type 0
-    TypeFits = (n : ℕ) × (τ : Ty) × (checkOf words ≡ Accepted n) × (workFor n ≤ length work) × Principal empty (expOf words) τ × (length (wordsOf τ) ≤ length out)
-
-    -- By code; of the check's own codes nothing is claimed here.
-    abbrev CaseOf : ℕ → Type 0
-    CaseOf code = getD (TypeFits ∷ Unit {0} ∷ Unit {0} ∷ Unit {0} ∷ Unit {0} ∷ WorkShort ∷ NoType ∷ OutShort ∷ []) code (Unit {0})
-
-    of-the-check : {code place : ℕ} → RefusedFor words code place → CaseOf code
-    of-the-check (for-its-count _) = tt
-    of-the-check (for-a-rule _ _) = tt
-    of-the-check (for-a-parent _ _ _) = tt
-    of-the-check (for-a-name _ _ _ _) = tt
-
-    in-case : {a : After} → Infers words work out a → CaseOf (codeOf (a .answer))
-    in-case (turned v is) = rw is (of-the-check (refused-for words v))
-    in-case (work-short {n} v short is) = rw is (n, v, short)
-    in-case (no-type {n} v enough untyped is) = rw is (n, v, enough, untyped)
-    in-case (out-short {n} {τ} v enough p short is) = rw is (n, τ, v, enough, p, short)
-    in-case (typed {n} {τ} v enough p fits is) = rw is (n, τ, v, enough, p, fits)
+  in-case : {a : After} → Infers words work out a → CaseOf (codeOf (a .answer))
+  in-case (turned v is) = rw is (of-the-check (refused-for words v))
+  in-case (work-short {n} v short is) = rw is (n, v, short)
+  in-case (no-type {n} v enough untyped is) = rw is (n, v, enough, untyped)
+  in-case (out-short {n} {τ} v enough p short is) = rw is (n, τ, v, enough, p, short)
+  in-case (typed {n} {τ} v enough p fits is) = rw is (n, τ, v, enough, p, fits)
 
 module _ {words work out : List ℕ} {a : After} (i : Infers words work out a) where
   case-of : {code : ℕ} → codeOf (a .answer) ≡ code → CaseOf words work out code

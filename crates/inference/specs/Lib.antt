@@ -8,6 +8,7 @@ pub mod Solving
 pub mod TableCells
 pub mod Grounding
 pub mod Inference
+pub mod Cases
 pub mod Writing
 -- The words of cells.
 pub mod LayoutLaws

@@ -8,7 +8,7 @@ use lib.IntN.{ℤ}
 use Rattle.language.specs.Expression.{Name, Operator, integer, Exp, constant, Value, Free, Closed}
 use Rattle.language.specs.Integers.{number, inRange, meaning}
 use Rattle.language.specs.Substitution.{sub}
-use Rattle.language.specs.FinalSubstitution.{Final}
+use Rattle.language.specs.FinalSubstitution.{FinalSub}
 use Rattle.language.specs.SmallStep.{Result, next, Step, NoStep, Stuck, Steps}
 use Rattle.language.specs.Move.{move, steps, value, stuck}
 use Rattle.language.specs.AllInRange.{AllInRange}
@@ -48,7 +48,7 @@ steps-stay-closed : {e e′ : Exp} → Steps e e′ → Closed e → Closed e′
 steps-stay-closed = ClosedSteps.steps-stay-closed
 
 -- Remark 3 after Definition 5: putting in something closed, the naive substitution is the final one.
-naive-is-final : (x : Name) (s e : Exp) → Closed s → Final x s e (sub x s e)
+naive-is-final : (x : Name) (s e : Exp) → Closed s → FinalSub x s e (sub x s e)
 naive-is-final = NaiveIsFinal.naive-is-final
 
 -- `move` tells which of the three cases an expression is in, and computes its step.

@@ -15,8 +15,8 @@ use Rattle.semantics.specs.Limits.{Need, at-end, last-step, steps-to}
 use Rattle.semantics.specs.Machine.{State, End, Step, next, start}
 use Rattle.semantics.specs.Answer.{DefinedAnswer, endAnswer}
 use Rattle.semantics.specs.EndsIn.{EndsIn, here, by-last-step, later}
-use Rattle.semantics.specs.SmallEnd.{EndsAs, Final, Alike}
-use Rattle.semantics.specs.SmallEndLaws.{ends-before, final-has-no-next, small-end-unique, ends-at-a-final}
+use Rattle.semantics.specs.SmallEnd.{EndsAs}
+use Rattle.semantics.specs.SmallEndLaws.{Final, Alike, ends-before, final-has-no-next, small-end-unique, ends-at-a-final}
 use Rattle.semantics.specs.Close.{close-nothing}
 use Rattle.semantics.specs.Standing.{StateFor, evaluating, nothing-bound, nothing-around, stateWork}
 use Rattle.semantics.specs.Simulation.{Simulates, at-its-end, at-last, no-small-step, small-step, simulated}

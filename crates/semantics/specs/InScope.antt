@@ -62,8 +62,3 @@ pub data FramesInScope (nd : Nodes) (n : ℕ) : List Frame → Type 0 where
 pub data InScope (nd : Nodes) (n : ℕ) : State → Type 0 where
   evaluate-in-scope : {k : ℕ} {node : Node} {η : Chain} {frames : List Frame} → EnvironmentOf nd n k node η → FramesInScope nd n frames → InScope nd n (evaluate k η frames)
   return-in-scope : {v : Value} {frames : List Frame} → ValueInScope nd n v → FramesInScope nd n frames → InScope nd n (return v frames)
-
--- The nodes at which a run can get stuck.
-pub data ApplicationOrIf : Node → Type 0 where
-  an-application : {l r : ℕ} → ApplicationOrIf (application-node l r)
-  an-if : {e₀ e₁ e₂ : ℕ} → ApplicationOrIf (if-node e₀ e₁ e₂)

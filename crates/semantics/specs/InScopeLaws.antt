@@ -16,7 +16,8 @@ use Rattle.table.specs.TreeLaws.{climb-root, climb-kid}
 use Rattle.semantics.specs.Limits.{Need, nothing, at-end, last-step, steps-to}
 use Rattle.semantics.specs.Machine.{Value, unit-value, boolean-value, integer-value, operator-value, operator-with, operator-with-other, closure, Chain, empty, bound, rec-bound, Frame, State, evaluate, End, done, stuck-at, raised-by, Step, newestBinding, evaluated, constantValue, withFirst, resulted, completed, applied, chosen, returned, next, start}
 use Rattle.semantics.specs.EndsIn.{EndsIn, here, by-last-step, later}
-use Rattle.semantics.specs.InScope.{BindsValue, lambda-binds, let-binds, Follows, no-entry, value-entry, rec-entry, ValueInScope, unit-in-scope, boolean-in-scope, integer-in-scope, operator-in-scope, operator-with-in-scope, operator-with-other-in-scope, closure-in-scope, EnvironmentOf, environment, inside, node-is, follows, left-part-in-scope, holding-in-scope, if-frame-in-scope, let-frame-in-scope, FramesInScope, no-frame, one-more, InScope, evaluate-in-scope, return-in-scope, ApplicationOrIf, an-application, an-if}
+use Rattle.semantics.specs.StuckNodes.{ApplicationOrIf, an-application, an-if}
+use Rattle.semantics.specs.InScope.{BindsValue, lambda-binds, let-binds, Follows, no-entry, value-entry, rec-entry, ValueInScope, unit-in-scope, boolean-in-scope, integer-in-scope, operator-in-scope, operator-with-in-scope, operator-with-other-in-scope, closure-in-scope, EnvironmentOf, environment, inside, node-is, follows, left-part-in-scope, holding-in-scope, if-frame-in-scope, let-frame-in-scope, FramesInScope, no-frame, one-more, InScope, evaluate-in-scope, return-in-scope}
 
 -- A step leads to a state that is in scope, or to an end of which P holds.
 abbrev Leads : Nodes → ℕ → (End → Type 0) → Step → Type 0

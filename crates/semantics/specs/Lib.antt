@@ -5,6 +5,7 @@ pub mod Limits
 pub mod Machine
 pub mod Answer
 pub mod SmallEnd
+pub mod StuckNodes
 pub mod Reached
 -- Fuel and room, for any machine.
 pub mod EndsIn

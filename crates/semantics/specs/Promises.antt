@@ -20,7 +20,8 @@ use Rattle.semantics.specs.Machine.{Chain, Frame, State, evaluate, End, 
 use Rattle.semantics.specs.Answer.{DefinedAnswer, exception-answer, stuck-answer, code, runTable}
 use Rattle.semantics.specs.SmallEnd.{EndsAs}
 use Rattle.semantics.specs.Reached.{NamesLimit, answerFor, Reached}
-use Rattle.semantics.specs.InScope.{InScope, ApplicationOrIf}
+use Rattle.semantics.specs.StuckNodes.{ApplicationOrIf}
+use Rattle.semantics.specs.InScope.{InScope}
 use Rattle.semantics.specs.TableRuns as TableRuns
 use Rattle.semantics.specs.InScopeLaws as InScopeLaws
 

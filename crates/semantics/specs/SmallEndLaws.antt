@@ -3,13 +3,25 @@ use Prim.Native.Nat.{ℕ}
 use mathlib.Core.Path.{_≡_, refl}
 use native.Mathlib.Omega.{arith}
 use Rattle.language.specs.Expression.{Value, Exp, constant-value, lambda-value, operator-value}
-use Rattle.language.specs.SmallStep.{next, raised, Step, Steps, done, then, Diverges}
+use Rattle.language.specs.Integers.{Exception}
+use Rattle.language.specs.SmallStep.{next, raised, Step, Stuck, Steps, done, then, Diverges}
 use Rattle.language.specs.Move.{Move, steps, value, stuck, move}
 use Rattle.language.specs.MoveDecides.{value-is-move, step-is-move, stuck-is-move}
 use Rattle.language.specs.Determinism.{values-do-not-step, steps-are-deterministic}
 use Rattle.semantics.specs.Answer.{DefinedAnswer, unit-answer, function-answer, exception-answer, stuck-answer}
-use Rattle.semantics.specs.SmallEnd.{Function, a-lambda, an-operator, an-operator-with, EndsAs, an-integer, a-boolean, the-unit, a-function, an-exception, got-stuck, Final, at-value, at-exception, at-stuck, Alike, same, both-stuck}
+use Rattle.semantics.specs.SmallEnd.{Function, a-lambda, an-operator, an-operator-with, EndsAs, an-integer, a-boolean, the-unit, a-function, an-exception, got-stuck}
 use Rattle.semantics.specs.Reached.{answerFor}
+
+-- Where the small steps of an expression end: at a value, at one whose step raises an exception, or stuck.
+pub data Final (e : Exp) : Type 0 where
+  at-value : Value e → Final e
+  at-exception : {x : Exception} → Step e (raised x) → Final e
+  at-stuck : Stuck e → Final e
+
+-- The same answer, but for the node of a stuck run.
+pub data Alike : DefinedAnswer → DefinedAnswer → Type 0 where
+  same : {a : DefinedAnswer} → Alike a a
+  both-stuck : {j k : ℕ} → Alike (stuck-answer j) (stuck-answer k)
 
 -- What steps to an expression ends as that does.
 pub ends-before : {e e′ : Exp} {a : DefinedAnswer} → Step e (next e′) → EndsAs e′ a → EndsAs e a

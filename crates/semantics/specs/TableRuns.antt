@@ -19,14 +19,14 @@ use Rattle.table.specs.Accepted.{count-is}
 use Rattle.semantics.specs.Limits.{fuel-limit, binding-limit, frame-limit, How, ended, ran-out, Room, run}
 use Rattle.semantics.specs.Machine.{Value, unit-value, boolean-value, integer-value, operator-value, operator-with, operator-with-other, closure, End, done, stuck-at, raised-by, next, start, framesInUse}
 use Rattle.semantics.specs.Answer.{DefinedAnswer, integer-answer, boolean-answer, unit-answer, function-answer, exception-answer, stuck-answer, limit-answer, code, valueAnswer, endAnswer, answerOf, wholeAnswer, runTable}
-use Rattle.semantics.specs.SmallEnd.{EndsAs, got-stuck, an-integer, a-boolean, the-unit, a-function, an-exception, a-lambda, an-operator, an-operator-with, Alike, same, both-stuck}
+use Rattle.semantics.specs.SmallEnd.{EndsAs, got-stuck, an-integer, a-boolean, the-unit, a-function, an-exception, a-lambda, an-operator, an-operator-with}
 use Rattle.semantics.specs.Reached.{NamesLimit, answerFor, Reached}
 use Rattle.semantics.specs.EndsIn.{EndsIn}
 use Rattle.semantics.specs.LimitsLaws as LimitsLaws
-use Rattle.semantics.specs.InScope.{ApplicationOrIf}
+use Rattle.semantics.specs.StuckNodes.{ApplicationOrIf}
 use Rattle.semantics.specs.InScopeLaws as InScopeLaws
 use Rattle.semantics.specs.EndsLikeSmallSteps as EndsLikeSmallSteps
-use Rattle.semantics.specs.SmallEndLaws.{what-ends-does-not-diverge}
+use Rattle.semantics.specs.SmallEndLaws.{Alike, same, both-stuck, what-ends-does-not-diverge}
 
 module _ {words : List ℕ} {n : ℕ} (checked : Checked words n) where
   abbrev nd : Nodes
