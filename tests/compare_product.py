@@ -1,6 +1,6 @@
 #!/usr/bin/env python3
 """Compares what the users hold with a second implementation, written from the rules alone: the two lines of the program `formula`, and
-the two entries for a host in C with their numbers and every byte of `out`.
+the two entries for a host in C with their numbers, every byte of `out` and all bytes around it.
 
 usage: compare_product.py PROGRAM FEED HOST [COUNT]
 
@@ -13,6 +13,7 @@ import random
 import re
 import struct
 import sys
+import zlib
 from collections import Counter
 
 sys.path.insert(0, os.path.dirname(os.path.abspath(__file__)))
@@ -22,6 +23,10 @@ from compare_types import BENCH as TYPES, Inference, apply, doubled, fun, just_p
 from trials import lines, output  # noqa: E402
 
 WORK, OUT, STORE, FUEL = 12304, 64, 512, 100000
+
+# The pages that `out` lies in, and what they hold before a call: PAGES bytes from one of SEEDS places on, as in guarded_host.c.
+PAGES, SEEDS = 16384, 4096
+NOISE = bytes(at * 2654435761 % 2 ** 32 >> 24 for at in range(PAGES + SEEDS))
 
 
 # ---- The second implementation
@@ -39,6 +44,10 @@ def words_in(text):
     """The words of an input, or None."""
     words = [number(token) for token in re.split(rb"[\t\n\r ]", text) if token]
     return None if len(words) > 2048 or None in words else words
+
+
+def packed(words):
+    return struct.pack("<%dI" % len(words), *words)
 
 
 class Formula:
@@ -61,12 +70,12 @@ class Formula:
         code, payload, steps, bindings = self.run(FUEL)
         if code == 10 and payload >= 2 ** 31:
             payload -= 2 ** 32
-        return "type %s\nrun %d %d %d %d\n" % (self.inference.answer(WORK, OUT), code, payload, steps, bindings)
+        return "type %s\nrun %d %d %d %d\n" % (self.inference.said(WORK, OUT), code, payload, steps, bindings)
 
     def infer_entry(self, room):
-        """The number, and the type's bytes as the test host shows them."""
-        code, place, *type_words = map(int, self.inference.answer(WORK, min(room // 4, 1024)).split())
-        return code + (place << 32), struct.pack("<%dI" % len(type_words), *type_words).hex()
+        """The number, and the bytes that are written to the beginning of `out`."""
+        code, place = self.inference.answer(WORK, min(room // 4, 1024))
+        return code + (place << 32), packed(self.inference.words) if code == 0 else b""
 
     def run_entry(self, fuel):
         code, payload, _, _ = self.run(fuel)
@@ -93,9 +102,14 @@ class Case:
     def lines(self):
         return "input\n" if self.read is None else self.read.lines()
 
-    def entries(self):
-        number, type_bytes = self.lent.infer_entry(self.room)
-        return "%d %d %s" % (number, self.lent.run_entry(self.fuel), type_bytes)
+    def entries(self, seed):
+        """The numbers of both entries and the sums of the table and of the pages of `out`, with the slices at the start of their pages
+        and at the end."""
+        number, written = self.lent.infer_entry(self.room)
+        before = NOISE[seed % SEEDS:][:PAGES]
+        pages = [before[:out] + written + before[out + len(written):] for out in (0, PAGES - self.room)]
+        answers = "%d %d %d" % (number, self.lent.run_entry(self.fuel), zlib.adler32(self.table))
+        return " ".join("%s %d" % (answers, zlib.adler32(memory)) for memory in pages)
 
     def for_program(self):
         return struct.pack("<II", len(self.text), self.piece) + self.text
@@ -108,10 +122,6 @@ class Case:
 
 def plain(words):
     return " ".join(map(str, words)).encode()
-
-
-def packed(words):
-    return struct.pack("<%dI" % len(words), *words)
 
 
 def nested(times):
@@ -225,12 +235,12 @@ def main():
     if len(said) != len(cases):
         sys.exit("%d inputs, %d answers of the program" % (len(cases), len(said)))
     types, runs, inputs = Counter(), Counter(), 0
-    for case, lines_said, entry in zip(cases, said, entered):
+    for seed, (case, lines_said, entry) in enumerate(zip(cases, said, entered)):
         if lines_said != case.lines():
             sys.exit("the text %s: wanted %s, the program says %s" % (case.text, case.lines(), lines_said))
-        if entry != case.entries():
+        if entry != case.entries(seed):
             sys.exit("the bytes %s with out %d and fuel %d: wanted %s, the entries say %s"
-                     % (case.table.hex(), case.room, case.fuel, case.entries(), entry))
+                     % (case.table.hex(), case.room, case.fuel, case.entries(seed), entry))
         inputs += lines_said == "input\n"
         infer, run = map(int, entry.split(" ")[:2])
         types[infer & 255] += 1

@@ -14,9 +14,8 @@ import sys
 
 sys.path.insert(0, os.path.dirname(os.path.abspath(__file__)))
 from check_tables import damaged, tree, verdict  # noqa: E402
-from trials import INFER, lines, trial  # noqa: E402
+from trials import INFER, LENT_FIRST, LENT_SECOND, LONGEST, lines, sum_of, trial  # noqa: E402
 
-LONGEST = 33000  # of a lent slice, in words
 UNIT, BOOL, INT = "unit", "bool", "int"
 
 
@@ -130,7 +129,7 @@ class Inference:
     def __init__(self, words):
         self.code, self.place = verdict(words)
         self.needs = 24 * (len(words) // 4) + 16
-        self.reason, self.length, self.text = None, None, None
+        self.reason, self.length, self.words, self.sum = None, None, None, None
         if self.code:
             return
         typing = Typing(words)
@@ -141,18 +140,32 @@ class Inference:
             return
         self.length = typing.length(root)
         if self.length <= LONGEST:
-            self.text = " ".join(map(str, typing.written(root, {})))
+            self.words = typing.written(root, {})
+            self.sum = sum_of(self.words)
 
     def answer(self, work, out):
+        """Code and place."""
         if self.code:
-            return "%d %d" % (self.code, self.place)
+            return self.code, self.place
         if work < self.needs:
-            return "5 0"
+            return 5, 0
         if self.reason:
-            return "6 0"
+            return 6, 0
         if out < self.length:
-            return "7 0"
-        return "0 %d %s" % (self.length, self.text)
+            return 7, 0
+        return 0, self.length
+
+    def said(self, work, out):
+        """Code and place, and on code 0 the type's words."""
+        code, place = self.answer(work, out)
+        return " ".join(map(str, [code, place] + (self.words if code == 0 else [])))
+
+    def line(self, work, out):
+        """Code and place, and the sums of work and out afterwards."""
+        code, place = self.answer(work, out)
+        zeros = self.needs if code in (0, 6, 7) else 0
+        written, total = (self.length, self.sum) if code == 0 else (0, 0)
+        return "%d %d %d %d" % (code, place, LENT_FIRST.with_first(work, zeros), LENT_SECOND.with_first(out, written, total))
 
 
 # An expression is a tuple: a node's kind, and its fields with expressions for the children.
@@ -381,14 +394,14 @@ def main():
     program, count = sys.argv[1], int(sys.argv[2]) if len(sys.argv) > 2 else 30000
     sys.setrecursionlimit(20000)
     for words, room, wanted in BENCH:
-        if Inference(words).answer(*room) != wanted:
+        if Inference(words).said(*room) != wanted:
             sys.exit("the second inference gives %s for %s with %s, and the scope says %s"
-                     % (Inference(words).answer(*room), words, room, wanted))
+                     % (Inference(words).said(*room), words, room, wanted))
     asked = list(cases(count))
     answers = lines(program, [trial(INFER, (work, out, 0), words) for words, work, out, _ in asked])
     codes, reasons, typable = {}, {"clash": 0, "cycle": 0}, 0
     for (words, work, out, inference), answer in zip(asked, answers):
-        wanted = inference.answer(work, out) + " left"
+        wanted = inference.line(work, out)
         if answer != wanted:
             sys.exit("the table %s with work %d and out %d: wanted %s, the program says %s" % (words, work, out, wanted, answer))
         code = int(wanted.split()[0])

@@ -51,7 +51,7 @@ slice-aggregate-make-call : tie.Need-slice-aggregate-make-call
 slice-aggregate-make-call c = sym (length-take-le _ (c .before .before .read-words .last .1 .0) (omega (arith, c .before .before .read-words .kept .1 .0)))
 
 make-call-requires : tie.Need-make-call-requires
-make-call-requires c κs = omega (arith, length-take-le (c .before .before .before .before .before .before .before .before .before .before .before .before .args .count) (c .before .before .read-words .last .1 .0) (omega (arith, c .before .before .read-words .kept .1 .0)))
+make-call-requires c κs = search needs
 
 returns-3 : tie.Need-returns-3
 returns-3 c = search needs
