@@ -2,7 +2,7 @@
 """Compares what the users hold with a second implementation, written from the rules alone: the two lines of the program `formula`, and
 the two entries for a host in C with their numbers, every byte of `out` and all bytes around it.
 
-usage: compare_product.py PROGRAM FEED HOST [COUNT]
+usage: compare_product.py PROGRAM FEED HOST [COUNT], a count of 10,000 or more
 
 PROGRAM is crates/formula as it is built; FEED is fed_program.c and HOST guarded_host.c, built. A case is a table as text and as bytes, an
 out length and a fuel. The first cases are chosen; the others are generated from a fixed seed: tables with a type and without, as text
