@@ -16,9 +16,9 @@ OPENING, CLOSING = "([{", ")]}"
 MODIFIERS = {"const", "unsafe", "async", "extern"}
 
 
-def tokens_of(source):
-    """The tokens of a source without comments, strings and characters."""
-    return TOKEN.findall(LEFT_OUT.sub(" ", source))
+def bare(source):
+    """A source with blanks in the place of comments, strings and characters."""
+    return LEFT_OUT.sub(lambda match: re.sub(r"\S", " ", match.group()), source)
 
 
 def closed(tokens, at):
@@ -32,32 +32,42 @@ def closed(tokens, at):
 
 
 def clauses(tokens, at):
-    """The kinds of the clauses in a head, from its parameters on: `requires` or `ensures`, perhaps with a name, and braces. Braces after
-    anything else are the body."""
+    """The clauses in a head, from its parameters on: `requires` or `ensures`, perhaps with a name, and braces; each with the places of
+    its braces. Braces after anything else are the body."""
     found = []
     while tokens[at] != ";":
         kind = next((word for word in (tokens[at - 1], tokens[at - 2]) if word in ("requires", "ensures")), None)
         if tokens[at] == "{" and not kind:
             break
+        after = closed(tokens, at) if tokens[at] in OPENING else at + 1
         if tokens[at] == "{":
-            found.append(kind)
-        at = closed(tokens, at) if tokens[at] in OPENING else at + 1
+            found.append((kind, at, after))
+        at = after
     return found
 
 
 def is_public(tokens, fn):
-    """Is the function public whose `fn` stands here? What is before it: `pub`, perhaps with a part of the crate, and other words."""
-    before, words = fn - 1, set()
-    while tokens[before] in MODIFIERS and before >= 0:
-        words.add(tokens[before])
+    """Is the function public whose `fn` stands here? Before it are `pub`, perhaps with a part of the crate, and other words."""
+    before = fn - 1
+    while tokens[before] in MODIFIERS:
         before -= 1
-    return tokens[before] == "pub" or "extern" in words
+    return tokens[before] == "pub" or "extern" in tokens[before:fn]
+
+
+def functions(source):
+    """Each function of a source: its name, whether it is public, and its clauses as pairs of kind and text."""
+    text = "; " + bare(source)
+    places = list(TOKEN.finditer(text))
+    tokens = [place.group() for place in places]
+    for at, token in enumerate(tokens):
+        if token == "fn":
+            found = [(kind, text[places[first].start():places[last - 1].end()]) for kind, first, last in clauses(tokens, at + 2)]
+            yield tokens[at + 1], is_public(tokens, at), found
 
 
 def public_functions(source):
     """The name of each, with the kinds of its clauses."""
-    tokens = [";"] + tokens_of(source)
-    return [(tokens[at + 1], clauses(tokens, at + 2)) for at, token in enumerate(tokens) if token == "fn" and is_public(tokens, at)]
+    return [(name, [kind for kind, _ in found]) for name, public, found in functions(source) if public]
 
 
 # Heads in any layout. Were one of these not found, the test would show nothing.
