@@ -57,8 +57,8 @@ def words_of(nodes):
 
 
 def table_of(expression, rng=None):
-    """The words of an expression, its nodes in an order in which children come after parents: breadth first, or with `rng` that or
-    another one, which may be any. Where the open parts are taken from at random, siblings come apart."""
+    """The words of an expression, its nodes in an order in which children come after parents: breadth first, or with `rng` that, or in
+    preorder from either side, or in any order, where the next node is taken from all open parts and siblings come apart."""
     order = rng.random() if rng else 0
     nodes, open_parts, taken = [], [(expression, None, 0)], 0
     while taken < len(open_parts):
@@ -69,13 +69,10 @@ def table_of(expression, rng=None):
             part, parent, field = open_parts.pop(-1 if order < 0.4 else int(rng.random() * len(open_parts)))
         if parent:
             parent[field] = len(nodes)
-        node = [0, 0, 0, 0]
-        for at, value in enumerate(part):
-            if type(value) is tuple:
-                open_parts.append((value, node, at))
-            else:
-                node[at] = value
+        node = [value if type(value) is int else 0 for value in part] + [0] * (4 - len(part))
         nodes.append(node)
+        kids = [(value, node, at) for at, value in enumerate(part) if type(value) is tuple]
+        open_parts += kids[::-1] if 0.2 <= order < 0.3 else kids
     return words_of(nodes)
 
 
