@@ -12,35 +12,30 @@ import sys
 sys.path.insert(0, os.path.dirname(os.path.abspath(__file__)))
 from trials import CHECK, lines, trial  # noqa: E402
 
-# kind: the fields a, b, c in turn; '0' unused, 'n' name, 'k' child, 'w' any word, or a range
-FIELDS = {
-    0: "000", 1: [range(2), "0", "0"], 2: "w00", 3: [range(10), "0", "0"], 4: "n00",
-    5: "kk0", 6: "kkk", 7: "nk0", 8: "nkk", 9: "nk0",
-}
-
-
-def children(node):
+def children(kind, a, b, c):
     """The children of a node, each with the name that the node binds there or None."""
-    kind, a, b, c = node
+    if kind < 5:
+        return []
     if kind == 5:
         return [(a, None), (b, None)]
     if kind == 6:
         return [(a, None), (b, None), (c, None)]
     if kind in (7, 9):
         return [(b, a)]
-    if kind == 8:
-        return [(b, None), (c, a)]
-    return []
+    return [(b, None), (c, a)]
 
 
-def field_fits(rule, value, at, count):
-    if rule == "0":
-        return value == 0
-    if rule == "n":
-        return value <= 65535
-    if rule == "k":
-        return at < value < count
-    return rule == "w" or value in rule
+def fits(at, count, kind, a, b, c):
+    """Does the node `at` of so many have a known kind, and fields within its rule?"""
+    if kind < 5:
+        return b == c == 0 and a < (1, 2, 2 ** 32, 10, 65536)[kind]
+    if kind == 5:
+        return at < a < count and at < b < count and c == 0
+    if kind == 6:
+        return at < a < count and at < b < count and at < c < count
+    if kind in (7, 9):
+        return a < 65536 and at < b < count and c == 0
+    return kind == 8 and a < 65536 and at < b < count and at < c < count
 
 
 def verdict(words):
@@ -48,12 +43,12 @@ def verdict(words):
     if not words or len(words) % 4 or len(words) > 2048:
         return 1, 0
     nodes = [tuple(words[i:i + 4]) for i in range(0, len(words), 4)]
-    for at, (kind, *fields) in enumerate(nodes):
-        if kind not in FIELDS or not all(map(lambda r, v: field_fits(r, v, at, len(nodes)), FIELDS[kind], fields)):
+    for at, node in enumerate(nodes):
+        if not fits(at, len(nodes), *node):
             return 2, at
-    times = [0] * len(nodes)
-    for node in nodes:
-        for child, _ in children(node):
+    times, below = [0] * len(nodes), [children(*node) for node in nodes]
+    for each in below:
+        for child, _ in each:
             times[child] += 1
     for at in range(1, len(nodes)):
         if times[at] != 1:
@@ -64,7 +59,7 @@ def verdict(words):
         at, bound = open_nodes.pop()
         if nodes[at][0] == 4 and nodes[at][1] not in bound:
             unbound.append(at)
-        open_nodes += [(child, bound if name is None else bound | {name}) for child, name in children(nodes[at])]
+        open_nodes += [(child, bound if name is None else bound | {name}) for child, name in below[at]]
     return (4, min(unbound)) if unbound else (0, len(nodes))
 
 

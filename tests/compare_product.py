@@ -1,8 +1,8 @@
 #!/usr/bin/env python3
 """Compares what the users hold with a second implementation, written from the rules alone: the two lines of the program `formula`, and
-the two entries for a host in C with their numbers and every byte of `out`.
+the two entries for a host in C with their numbers, every byte of `out` and all bytes around it.
 
-usage: compare_product.py PROGRAM FEED HOST [COUNT]
+usage: compare_product.py PROGRAM FEED HOST [COUNT], a count of 10,000 or more
 
 PROGRAM is crates/formula as it is built; FEED is fed_program.c and HOST guarded_host.c, built. A case is a table as text and as bytes, an
 out length and a fuel. The first cases are chosen; the others are generated from a fixed seed: tables with a type and without, as text
@@ -13,19 +13,28 @@ import random
 import re
 import struct
 import sys
+import zlib
 from collections import Counter
+from functools import lru_cache
 
 sys.path.insert(0, os.path.dirname(os.path.abspath(__file__)))
 from check_tables import damaged, tree  # noqa: E402
-from compare_runs import BENCH as RUNS, Machine, arithmetic, recursive_sum  # noqa: E402
-from compare_types import BENCH as TYPES, Inference, apply, doubled, fun, just_past, lambdas, name, table, table_of  # noqa: E402
+from compare_runs import BENCH as RUNS, Machine, arithmetic, nodes_of, recursive_sum  # noqa: E402
+from compare_types import BENCH as TYPES, Inference, doubled, just_past, lambdas, table  # noqa: E402
+from formulas import EQUAL, NOTHING, ONE, PLUS, TRUE, ZERO, apply, fun, let, name, operation, rec, running, table_of  # noqa: E402
+from shares import Shares  # noqa: E402
 from trials import lines, output  # noqa: E402
 
 WORK, OUT, STORE, FUEL = 12304, 64, 512, 100000
 
+# The pages that `out` lies in, and what they hold before a call: PAGES bytes from one of SEEDS places on, as in guarded_host.c.
+PAGES, SEEDS = 16384, 4096
+NOISE = bytes(at * 2654435761 % 2 ** 32 >> 24 for at in range(PAGES + SEEDS))
+
 
 # ---- The second implementation
 
+@lru_cache(maxsize=2 ** 16)
 def number(token):
     """The number below 2 ** 32 that a token is, or None."""
     digits = token.lstrip(b"0")
@@ -35,10 +44,15 @@ def number(token):
     return value if value < 2 ** 32 else None
 
 
+@lru_cache(maxsize=4)
 def words_in(text):
     """The words of an input, or None."""
     words = [number(token) for token in re.split(rb"[\t\n\r ]", text) if token]
     return None if len(words) > 2048 or None in words else words
+
+
+def packed(words):
+    return struct.pack("<%dI" % len(words), *words)
 
 
 class Formula:
@@ -47,26 +61,38 @@ class Formula:
     def __init__(self, words):
         self.words = words
         self.inference = Inference(words)
-        self.runs = {}
+        self.nodes = None if self.inference.code else nodes_of(words)
+        # The runs that were made, by their fuel; and one that ended with steps to spare or none, as every run with more fuel does.
+        self.runs, self.ended = {}, None
 
     def run(self, fuel):
         """Code, payload, steps and bindings."""
+        refusal, place = self.inference.code, self.inference.place
+        if refusal:
+            return refusal, place, 0, 0
+        if self.ended and self.ended[2] < fuel:
+            return self.ended
         if fuel not in self.runs:
-            refusal, place = self.inference.code, self.inference.place
-            answer = "%d %d 0 0" % (refusal, place) if refusal else Machine(self.words, fuel, STORE, STORE).run()
-            self.runs[fuel] = tuple(map(int, answer.split()))
+            self.runs[fuel] = Machine(self.nodes, fuel, STORE, STORE).run()
+            if self.runs[fuel][0] != 17:
+                self.ended = self.runs[fuel]
         return self.runs[fuel]
+
+    def need(self):
+        """The fuel that a run needs to come to an end, or None."""
+        code, _, steps, _ = self.run(FUEL)
+        return steps if 10 <= code <= 16 else None
 
     def lines(self):
         code, payload, steps, bindings = self.run(FUEL)
         if code == 10 and payload >= 2 ** 31:
             payload -= 2 ** 32
-        return "type %s\nrun %d %d %d %d\n" % (self.inference.answer(WORK, OUT), code, payload, steps, bindings)
+        return "type %s\nrun %d %d %d %d\n" % (self.inference.said(WORK, OUT), code, payload, steps, bindings)
 
     def infer_entry(self, room):
-        """The number, and the type's bytes as the test host shows them."""
-        code, place, *type_words = map(int, self.inference.answer(WORK, min(room // 4, 1024)).split())
-        return code + (place << 32), struct.pack("<%dI" % len(type_words), *type_words).hex()
+        """The number, and the bytes that are written to the beginning of `out`."""
+        code, place = self.inference.answer(WORK, min(room // 4, 1024))
+        return code + (place << 32), packed(self.inference.words) if code == 0 else b""
 
     def run_entry(self, fuel):
         code, payload, _, _ = self.run(fuel)
@@ -93,9 +119,14 @@ class Case:
     def lines(self):
         return "input\n" if self.read is None else self.read.lines()
 
-    def entries(self):
-        number, type_bytes = self.lent.infer_entry(self.room)
-        return "%d %d %s" % (number, self.lent.run_entry(self.fuel), type_bytes)
+    def entries(self, seed):
+        """The numbers of both entries and the sums of the table and of the pages of `out`, with the slices at the start of their pages
+        and at the end."""
+        number, written = self.lent.infer_entry(self.room)
+        before = NOISE[seed % SEEDS:][:PAGES]
+        pages = [before[:out] + written + before[out + len(written):] for out in (0, PAGES - self.room)]
+        answers = "%d %d %d" % (number, self.lent.run_entry(self.fuel), zlib.adler32(self.table))
+        return " ".join("%s %d" % (answers, zlib.adler32(memory)) for memory in pages)
 
     def for_program(self):
         return struct.pack("<II", len(self.text), self.piece) + self.text
@@ -107,27 +138,31 @@ class Case:
 # ---- The cases
 
 def plain(words):
-    return " ".join(map(str, words)).encode()
-
-
-def packed(words):
-    return struct.pack("<%dI" % len(words), *words)
+    return b" ".join(b"%d" % word for word in words)
 
 
 def nested(times):
     """fun x -> x (fun x -> x (..)), whose type has as many arrows left of one another: the most stack that we know."""
-    expression = (0,)
+    expression = NOTHING
     for _ in range(times):
         expression = fun(0, apply(name(0), expression))
     return table_of(expression)
 
 
+def long_turns(length):
+    """(rec f -> fun n -> let x = + .. in f n) 0, with so many additions: many steps for each binding, so that the fuel is used up first."""
+    addition = ONE
+    for _ in range(length):
+        addition = operation(PLUS, addition, ONE)
+    return table_of(apply(rec(0, fun(1, let(2, addition, apply(name(0), name(1))))), ZERO))
+
+
 def chosen():
     """Tables at the limits, with the room and fuel of the program and around."""
-    equal = [5, 1, 4, 0, 5, 2, 3, 0, 3, 9, 0, 0, 1, 1, 0, 0, 1, 1, 0, 0]
+    equal = table_of(operation(EQUAL, TRUE, TRUE))
     tables = [words for words, _, _ in RUNS + TYPES] + [[], equal, lambdas(511), lambdas(512), lambdas(31), lambdas(32), doubled(5),
                                                         doubled(6), just_past(10), just_past(64), nested(170), recursive_sum(200),
-                                                        recursive_sum(300)]
+                                                        recursive_sum(300), long_turns(120)]
     for words in tables:
         formula = Formula(words)
         for room, fuel in (256, FUEL), (0, 0), (3, 1), (4092, 13), (4095, 14), (4096, 2 ** 32 - 1), (5828, 20), (16384, 21):
@@ -135,22 +170,23 @@ def chosen():
     one = Formula([2, 1, 0, 0])
     texts = [b"", b" ", b"\n", b"2 1 0 0", b"2 1 0 0\n", b"\t2\r1\n0  0 ", b"2 1 0 " + b"0" * 10 ** 6, b"2 " + b"0" * 10 ** 6 + b"1 0 0",
              b"2 1 0 " + b"1" * 10 ** 6, b"2 4294967295 0 0", b"2 4294967296 0 0", b"2 04294967295 0 0", b"2 42949672950 0 0", b"2 -1 0 0",
-             b"2 +1 0 0", b"2 1 0 0 x", b"2 1 0 0x0", b"2 1.0 0 0", b"2,1,0,0", b"2 1 0 \xd9\xa0", b"0 " * 2048, b"0 " * 2049, b"0 " * 2048 + b"x"]
+             b"2 +1 0 0", b"2 1 0 0 x", b"2 1 0 0x0", b"2 1.0 0 0", b"2,1,0,0", b"2 1 0 \xd9\xa0", b"0 " * 2048, b"0 " * 2049,
+             b"0 " * 2048 + b"x"]
     texts += [bytes([byte]).join([b"2", b"1", b"0", b"0"]) for byte in range(256)]
     for text in texts:
         for piece in 1, 3, 4096, 2 ** 31:
             yield Case(text, piece, packed(one.words), 256, FUEL, one)
 
 
-def white(rng):
-    return b" " if rng.random() < 0.8 else bytes(rng.choice(b"\t\n\r ") for _ in range(rng.randrange(1, 4)))
+WHITE = [b" "] * 12 + [b"\t", b"\n", b"\r", b" \n", b"\r\n", b"\n\t ", b"   "]
+ZEROS = [b""] * 4 + [b"0", b"000000000000"]
 
 
 def some_text(rng, words):
     if rng.random() < 0.7:
-        return plain(words) + rng.choice([b"", b"\n"])
-    zeros = [b"0" * rng.choice([0, 0, 0, 1, 12]) for _ in words]
-    text = b"".join(zero + str(word).encode() + white(rng) for zero, word in zip(zeros, words))
+        return plain(words)
+    tokens = zip(rng.choices(ZEROS, k=len(words)), words, rng.choices(WHITE, k=len(words)))
+    text = b"".join(b"%s%d%s" % token for token in tokens)
     if text and rng.random() < 0.3:
         at = rng.randrange(len(text))
         text = text[:at] + bytes([rng.choice([rng.randrange(256), 32, 45, 48, 57, 58])]) + text[at + rng.randrange(2):]
@@ -170,22 +206,15 @@ def some_bytes(rng, words):
     return table_bytes
 
 
-def endless(rng):
-    """rec x -> .. x ..: it goes on until the bindings or the frames are full."""
-    body = name(0)
-    for _ in range(rng.randrange(4)):
-        body = rng.choice([apply((3, rng.randrange(10)), (2, 1), body), (6, body, (0,), (0,)), (8, 1, body, (0,)), (7, 1, body)])
-    return table_of((9, 0, body), rng)
-
-
 def some_table(rng, size):
     way = rng.random()
-    if way < 0.03:
-        return endless(rng)
-    if way < 0.6:
-        return table(rng, size)
-    words = arithmetic(rng, rng.randrange(1, 5)) if way < 0.75 else tree(rng, size)
-    return damaged(rng, words) if rng.random() < 0.2 else words
+    if way < 0.65:
+        words = table_of(running(rng), rng)
+    elif way < 0.8:
+        words = table(rng, size)
+    else:
+        words = table_of(arithmetic(rng, rng.randrange(1, 5)), rng) if way < 0.9 else tree(rng, size)
+    return damaged(rng, words) if rng.random() < 0.1 else words
 
 
 def some_room(rng, formula):
@@ -196,7 +225,7 @@ def some_room(rng, formula):
 
 def some_fuel(rng, formula):
     steps = formula.run(FUEL)[2]
-    return rng.choice([steps, steps, max(steps - 1, 0), steps + 1, rng.randrange(steps + 1), FUEL, 2 ** 32 - 1])
+    return rng.choice([steps, max(steps - 1, 0), steps + 1, rng.randrange(steps + 1), FUEL, FUEL, 2 ** 32 - 1])
 
 
 def generated(count):
@@ -208,12 +237,50 @@ def generated(count):
             continue
         formula = Formula(words)
         # Few of those that go on until a store is full: the second machine takes its time for them.
-        if formula.run(300)[0] == 17 and rng.random() < 0.9:
+        if formula.run(400)[0] == 17 and rng.random() < 0.9:
             continue
-        for _ in range(3):
+        for _ in range(4):
             yield Case(some_text(rng, words), rng.choice([1, 7, 64, 4096, 65536]), some_bytes(rng, words), some_room(rng, formula),
                        some_fuel(rng, formula), formula)
             made += 1
+
+
+class Met:
+    """What the runs are, of the program or of the entry."""
+
+    def __init__(self):
+        self.codes, self.over = Counter(), Counter()
+        self.accepted = self.long = self.binding = 0
+
+    def add(self, formula, fuel):
+        code, _, steps, made = formula.run(fuel)
+        self.codes[code] += 1
+        self.accepted += code >= 10
+        self.long += steps >= 20
+        self.binding += made >= 1
+        if formula.need():
+            self.over[fuel - formula.need()] += 1
+
+    def demand(self, shares, whose, count):
+        shares.demand("accepted by the %s" % whose, self.accepted, count, 1 / 2)
+        shares.demand("of these 20 steps or more", self.long, self.accepted, 1 / 2)
+        shares.demand("with a binding", self.binding, self.accepted, 1 / 3)
+
+
+def demand(program, entry, types, inputs, count):
+    shares = Shares()
+    program.demand(shares, "program", count)
+    shares.demand("no words", inputs, count, 1 / 1000)
+    # The program's fuel is used up in few of the chosen cases only.
+    shares.demand_codes(program.codes, [code for code in range(10, 20) if code != 17], count, 1 / 1000)
+    shares.demand_codes(program.codes, [17], 1, 1)
+    entry.demand(shares, "entry", count)
+    shares.demand("fuel near its need", entry.over[-1] + entry.over[0] + entry.over[1], count, 1 / 10)
+    for over, where in (-1, "one below"), (0, "at it"), (1, "one above"):
+        shares.demand(where, entry.over[over], count, 1 / 50)
+    shares.demand_codes(entry.codes, range(10, 20), count, 1 / 1000)
+    shares.demand_codes(types, (0, 1, 2, 3, 4, 6, 7), count, 1 / 1000)
+    return shares
 
 
 def main():
@@ -224,23 +291,21 @@ def main():
     entered = lines(host, [case.for_host(seed) for seed, case in enumerate(cases)])
     if len(said) != len(cases):
         sys.exit("%d inputs, %d answers of the program" % (len(cases), len(said)))
-    types, runs, inputs = Counter(), Counter(), 0
-    for case, lines_said, entry in zip(cases, said, entered):
+    of_program, of_entry, types, inputs = Met(), Met(), Counter(), 0
+    for seed, (case, lines_said, entry) in enumerate(zip(cases, said, entered)):
         if lines_said != case.lines():
             sys.exit("the text %s: wanted %s, the program says %s" % (case.text, case.lines(), lines_said))
-        if entry != case.entries():
+        if entry != case.entries(seed):
             sys.exit("the bytes %s with out %d and fuel %d: wanted %s, the entries say %s"
-                     % (case.table.hex(), case.room, case.fuel, case.entries(), entry))
-        inputs += lines_said == "input\n"
-        infer, run = map(int, entry.split(" ")[:2])
-        types[infer & 255] += 1
-        runs[run & 255] += 1
-    few = count // 1000
-    hardly = [code for code in (0, 1, 2, 3, 4, 6, 7) if types[code] < few] + [code for code in range(10, 20) if runs[code] < few]
-    if hardly or inputs < few:
-        sys.exit("hardly met: %s of %s, %s; %d inputs without words" % (hardly, types, runs, inputs))
-    print("%d cases agree: %d inputs without words; types %s; runs %s"
-          % (len(cases), inputs, dict(sorted(types.items())), dict(sorted(runs.items()))))
+                     % (case.table.hex(), case.room, case.fuel, case.entries(seed), entry))
+        if case.read:
+            of_program.add(case.read, FUEL)
+        else:
+            inputs += 1
+        of_entry.add(case.lent, case.fuel)
+        types[case.lent.infer_entry(case.room)[0] & 255] += 1
+    shares = demand(of_program, of_entry, types, inputs, len(cases))
+    shares.tell("%d cases agree: types %s; runs %s" % (len(cases), dict(sorted(types.items())), dict(sorted(of_entry.codes.items()))))
 
 
 if __name__ == "__main__":

@@ -11,13 +11,15 @@ to be equal, where a variable never enters its own type."""
 import os
 import random
 import sys
+from collections import Counter
 
 sys.path.insert(0, os.path.dirname(os.path.abspath(__file__)))
 from check_tables import damaged, tree, verdict  # noqa: E402
-from trials import INFER, lines, trial  # noqa: E402
+from formulas import (BOOL, DIVIDE, EQUAL, FALSE, INT, ONE, PLUS, TRUE, TWO, UNIT, ZERO, apply, choose, fun, let,  # noqa: E402
+                      name, operation, rec, running, some_constant, some_name, some_type, table_of, typed)
+from shares import Shares  # noqa: E402
+from trials import INFER, LENT_FIRST, LENT_SECOND, LONGEST, lines, sum_of, trial  # noqa: E402
 
-LONGEST = 33000  # of a lent slice, in words
-UNIT, BOOL, INT = "unit", "bool", "int"
 
 
 class Arrow:
@@ -130,7 +132,7 @@ class Inference:
     def __init__(self, words):
         self.code, self.place = verdict(words)
         self.needs = 24 * (len(words) // 4) + 16
-        self.reason, self.length, self.text = None, None, None
+        self.reason, self.length, self.words, self.sum = None, None, None, None
         if self.code:
             return
         typing = Typing(words)
@@ -141,70 +143,50 @@ class Inference:
             return
         self.length = typing.length(root)
         if self.length <= LONGEST:
-            self.text = " ".join(map(str, typing.written(root, {})))
+            self.words = typing.written(root, {})
+            self.sum = sum_of(self.words)
 
     def answer(self, work, out):
+        """Code and place."""
         if self.code:
-            return "%d %d" % (self.code, self.place)
+            return self.code, self.place
         if work < self.needs:
-            return "5 0"
+            return 5, 0
         if self.reason:
-            return "6 0"
+            return 6, 0
         if out < self.length:
-            return "7 0"
-        return "0 %d %s" % (self.length, self.text)
+            return 7, 0
+        return 0, self.length
+
+    def said(self, work, out):
+        """Code and place, and on code 0 the type's words."""
+        code, place = self.answer(work, out)
+        return " ".join(map(str, [code, place] + (self.words if code == 0 else [])))
+
+    def line(self, work, out):
+        """Code and place, and the sums of work and out afterwards."""
+        code, place = self.answer(work, out)
+        zeros = self.needs if code in (0, 6, 7) else 0
+        written, total = (self.length, self.sum) if code == 0 else (0, 0)
+        return "%d %d %d %d" % (code, place, LENT_FIRST.with_first(work, zeros), LENT_SECOND.with_first(out, written, total))
 
 
-# An expression is a tuple: a node's kind, and its fields with expressions for the children.
-
-def name(x):
-    return (4, x)
-
-
-def apply(function, *arguments):
-    for argument in arguments:
-        function = (5, function, argument)
-    return function
-
-
-def fun(x, body):
-    return (7, x, body)
-
-
-def table_of(expression, rng=None):
-    """The words of an expression, its nodes in any order in which children come after parents; without `rng`, breadth first."""
-    nodes, open_parts = [], [(expression, None, 0)]
-    while open_parts:
-        part, parent, field = open_parts.pop(rng.randrange(len(open_parts)) if rng else 0)
-        if parent:
-            parent[field] = len(nodes)
-        node = [0, 0, 0, 0]
-        for at, value in enumerate(part):
-            if type(value) is tuple:
-                open_parts.append((value, node, at))
-            else:
-                node[at] = value
-        nodes.append(node)
-    return [word for node in nodes for word in node]
-
-
-TRUE, ONE, TWO = (1, 1), (2, 1), (2, 2)
 P1 = [5, 1, 7, 0, 7, 0, 2, 0, 5, 3, 6, 0, 5, 4, 5, 0, 3, 0, 0, 0, 4, 0, 0, 0, 2, 1, 0, 0, 2, 5, 0, 0]
 P2 = table_of(fun(0, name(0)))
-P3 = table_of(fun(0, fun(1, apply(name(0), name(1)))))
+P3 = table_of(fun(0, 1, apply(name(0), name(1))))
 P4 = table_of(fun(0, apply(name(0), name(0))))
-P5 = table_of((9, 0, name(0)))
-P6 = table_of((6, TRUE, ONE, (1, 0)))
+P5 = table_of(rec(0, name(0)))
+P6 = table_of(choose(TRUE, ONE, FALSE))
 P7 = table_of(apply(ONE, TWO))
-P8 = table_of(apply(ONE, apply((3, 3), ONE, (2, 0))))
-P9 = table_of((8, 0, fun(1, name(1)), (6, apply(name(0), TRUE), apply(name(0), ONE), (2, 0))))
+P8 = table_of(apply(ONE, operation(DIVIDE, ONE, ZERO)))
+P9 = table_of(let(0, fun(1, name(1)), choose(apply(name(0), TRUE), apply(name(0), ONE), ZERO)))
 P12 = [4, 0, 0, 0]
 
 
 def doubled(times):
     """double (.. (double 1)), where double is fun x -> fun f -> f (f x): from a type τ each makes (τ -> τ) -> τ (lecture notes,
     Beispiel 44)."""
-    double, expression = fun(0, fun(1, apply(name(1), apply(name(1), name(0))))), ONE
+    double, expression = fun(0, 1, apply(name(1), apply(name(1), name(0)))), ONE
     for _ in range(times):
         expression = apply(double, expression)
     return table_of(expression)
@@ -220,7 +202,7 @@ def doubled_type(times):
 def just_past(power):
     """A formula whose type has 2 ^ power + 1 words, which a count of so many bits would take for 1: from a type τ each application
     makes τ -> τ, and at last a variable comes before it."""
-    same, expression = fun(0, fun(1, (6, TRUE, name(0), name(1)))), ONE
+    same, expression = fun(0, 1, choose(TRUE, name(0), name(1))), ONE
     for _ in range(power - 1):
         expression = apply(same, expression)
     return table_of(fun(0, expression))
@@ -237,7 +219,7 @@ BENCH = [
     (P2, AMPLE, "0 3 4 16 16"), (P2, (64, 3), "0 3 4 16 16"), (P2, (64, 2), "7 0"), (P2, (64, 0), "7 0"), (P2, (63, 2), "5 0"),
     (P3, AMPLE, "0 7 4 4 16 17 4 16 17"), (P4, AMPLE, "6 0"), (P4, (112, 0), "6 0"), (P4, (111, 0), "5 0"), (P5, AMPLE, "0 1 16"),
     (P6, AMPLE, "6 0"), (P7, AMPLE, "6 0"), (P8, AMPLE, "6 0"), (P9, AMPLE, "6 0"), (P12, AMPLE, "4 0"), (P12, (0, 0), "4 0"),
-    ([], AMPLE, "1 0"), (table_of(apply((3, 9), TRUE, TRUE)), AMPLE, "6 0"), (table_of(apply((3, 0), TRUE)), AMPLE, "6 0"),
+    ([], AMPLE, "1 0"), (table_of(operation(EQUAL, TRUE, TRUE)), AMPLE, "6 0"), (table_of(apply((3, PLUS), TRUE)), AMPLE, "6 0"),
     (lambdas(511), (12304, 1023), "0 1023 %s 1" % " ".join("4 %d" % (16 + k) for k in range(511))), (lambdas(511), (12304, 1022), "7 0"),
     (lambdas(511), (12303, 1023), "5 0"), (lambdas(512), (LONGEST, LONGEST), "1 0"),
     # Types that are far longer written out than shared.
@@ -248,65 +230,6 @@ BENCH = [
 
 
 # ---- Generated formulas
-
-BASES = [UNIT, BOOL, INT, INT, "p", "q", "r"]
-
-
-def some_type(rng, depth=2):
-    """A type to aim at: bases, arrows as pairs, and letters for types of which nothing is known."""
-    if depth == 0 or rng.random() < 0.6:
-        return rng.choice(BASES)
-    return (some_type(rng, depth - 1), some_type(rng, depth - 1))
-
-
-def some_name(rng):
-    return rng.randrange(5) if rng.random() < 0.9 else rng.randrange(65536)
-
-
-def some_constant(rng):
-    return rng.choice([(0,), (1, rng.randrange(2)), (2, rng.getrandbits(32)), (3, rng.randrange(10))])
-
-
-def small(rng, goal, env):
-    """An expression of few nodes with the type that is aimed at; rec x -> x has every type."""
-    fitting = [x for x, t in env.items() if t == goal]
-    if fitting and rng.random() < 0.8:
-        return name(rng.choice(fitting))
-    if goal in (UNIT, BOOL, INT):
-        return {UNIT: (0,), BOOL: (1, rng.randrange(2)), INT: (2, rng.getrandbits(32))}[goal]
-    if goal in ((INT, (INT, INT)), (INT, (INT, BOOL))):
-        return (3, rng.randrange(5) + 5 * (goal[1][1] == BOOL))
-    x = some_name(rng)
-    if type(goal) is tuple:
-        return fun(x, small(rng, goal[1], {**env, x: goal[0]}))
-    return name(rng.choice(fitting)) if fitting else (9, x, name(x))
-
-
-def typed(rng, goal, env, size):
-    """An expression of about so many nodes with the type that is aimed at, for names of the types in `env`."""
-    if size < 3:
-        return small(rng, goal, env)
-    x, size = some_name(rng), size - 1
-    way = rng.random()
-    if type(goal) is tuple and way < 0.5:
-        return fun(x, typed(rng, goal[1], {**env, x: goal[0]}, size))
-    if goal in (INT, BOOL) and way < 0.3:
-        operator = (3, rng.randrange(5) + 5 * (goal == BOOL))
-        return apply(operator, typed(rng, INT, env, size // 2), typed(rng, INT, env, size // 2))
-    if way < 0.65:
-        functions = [(y, t) for y, t in env.items() if type(t) is tuple and t[1] == goal]
-        if functions:
-            y, (takes, _) = rng.choice(functions)
-            return apply(name(y), typed(rng, takes, env, size - 1))
-        takes = some_type(rng)
-        return apply(typed(rng, (takes, goal), env, size // 2), typed(rng, takes, env, size // 2))
-    if way < 0.8:
-        bound = some_type(rng)
-        return (8, x, typed(rng, bound, env, size // 2), typed(rng, goal, {**env, x: bound}, size // 2))
-    if way < 0.9:
-        return (6, typed(rng, BOOL, env, size // 3), typed(rng, goal, env, size // 3), typed(rng, goal, env, size // 3))
-    return (9, x, typed(rng, goal, {**env, x: goal}, size))
-
 
 def bundled(rng, env, size):
     """fun s -> s e e, where each e is typed or a bundle again: its type holds all of theirs."""
@@ -325,10 +248,10 @@ def untyped(rng, names, size):
         return name(rng.choice(names))
     x, way = some_name(rng), rng.random()
     if not names or way < 0.4:
-        return (rng.choice([7, 7, 9]), x, untyped(rng, names + (x,), size - 1))
+        return rng.choice([fun, fun, rec])(x, untyped(rng, names + (x,), size - 1))
     if way < 0.9:
         return apply(untyped(rng, names, size // 2), untyped(rng, names, size // 2))
-    return (8, x, untyped(rng, names, size // 2), untyped(rng, names + (x,), size // 2))
+    return let(x, untyped(rng, names, size // 2), untyped(rng, names + (x,), size // 2))
 
 
 def with_another_leaf(rng, words):
@@ -343,12 +266,15 @@ def with_another_leaf(rng, words):
 
 def table(rng, size):
     way = rng.random()
-    if way < 0.15:
-        return tree(rng, size)
     if way < 0.35:
+        words = table_of(running(rng), rng)
+        return with_another_leaf(rng, words) if way < 0.05 else words
+    if way < 0.45:
+        return tree(rng, size)
+    if way < 0.6:
         return table_of(untyped(rng, (), size), rng)
     words = table_of(bundled(rng, {}, size) if rng.random() < 0.4 else typed(rng, some_type(rng), {}, size), rng)
-    if way < 0.6:
+    if way < 0.75:
         words = with_another_leaf(rng, words)
     return damaged(rng, words) if way > 0.95 else words
 
@@ -381,26 +307,29 @@ def main():
     program, count = sys.argv[1], int(sys.argv[2]) if len(sys.argv) > 2 else 30000
     sys.setrecursionlimit(20000)
     for words, room, wanted in BENCH:
-        if Inference(words).answer(*room) != wanted:
+        if Inference(words).said(*room) != wanted:
             sys.exit("the second inference gives %s for %s with %s, and the scope says %s"
-                     % (Inference(words).answer(*room), words, room, wanted))
+                     % (Inference(words).said(*room), words, room, wanted))
     asked = list(cases(count))
     answers = lines(program, [trial(INFER, (work, out, 0), words) for words, work, out, _ in asked])
-    codes, reasons, typable = {}, {"clash": 0, "cycle": 0}, 0
+    codes, reasons, typable = Counter(), Counter(), 0
     for (words, work, out, inference), answer in zip(asked, answers):
-        wanted = inference.answer(work, out) + " left"
+        wanted = inference.line(work, out)
         if answer != wanted:
             sys.exit("the table %s with work %d and out %d: wanted %s, the program says %s" % (words, work, out, wanted, answer))
-        code = int(wanted.split()[0])
-        codes[code] = codes.get(code, 0) + 1
+        code, _ = inference.answer(work, out)
+        codes[code] += 1
         typable += inference.length is not None
         if code == 6:
             reasons[inference.reason] += 1
-    hardly = [code for code in range(8) if codes.get(code, 0) < 5] + [reason for reason in reasons if reasons[reason] < 5]
-    if hardly or 3 * typable < len(asked):
-        sys.exit("hardly met: %s of %s, %s; %d have a type" % (hardly, codes, reasons, typable))
-    print("%d inferences agree: %s; 6 for a clash %d, for a cycle %d; %d have a type"
-          % (len(asked), ", ".join("%d %d" % pair for pair in sorted(codes.items())), reasons["clash"], reasons["cycle"], typable))
+    shares = Shares()
+    shares.demand("accepted by the check", len(asked) - sum(codes[code] for code in range(1, 5)), len(asked), 1 / 2)
+    shares.demand("with a type", typable, len(asked), 1 / 3)
+    for reason in "clash", "cycle":
+        shares.demand("without one for a %s" % reason, reasons[reason], len(asked), 1 / 50)
+    shares.demand_codes(codes, (0, 6, 7), len(asked), 1 / 20)
+    shares.demand_codes(codes, (1, 2, 3, 4, 5), len(asked), 1 / 1000)
+    shares.tell("%d inferences agree: %s" % (len(asked), ", ".join("%d %d" % pair for pair in sorted(codes.items()))))
 
 
 if __name__ == "__main__":

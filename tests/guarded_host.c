@@ -3,11 +3,11 @@
    pages, and with both at the end. The calls are made on a thread with the stack that the header asks for, and OWN_STACK
    bytes for the host itself.
 
-   Standard input: for each case the numbers table length, out length, fuel and a number for the bytes that `out` holds before, little-
-   endian, then the table's bytes. A line for each case: the numbers of iltgovruz_infer and iltgovruz_run, and on code 0 the type's
-   bytes; `STRAY` in place of all that if the two calls differ, or if a byte changed that should not have.
+   Standard input: for each case the numbers table length, out length, fuel and a number for the bytes that the pages of `out` hold before,
+   little-endian, then the table's bytes. A line for each case, with four numbers for the first calls and four for the last: those of
+   iltgovruz_infer and iltgovruz_run, and the sums of the table and of all bytes between the guards of `out` afterwards.
 
-   A stray access ends it by a signal. */
+   It knows nothing of what is right. A stray access ends it by a signal. */
 #define _GNU_SOURCE
 #include <inttypes.h>
 #include <pthread.h>
@@ -21,16 +21,12 @@
 
 enum { ROOM = 4 * 4096, GUARD = 4096, SEEDS = 4096, OWN_STACK = 16 * 1024 };
 
-/* What `out` holds before a call: ROOM bytes from one of so many places on. */
+/* What the pages of `out` hold before a call: ROOM bytes from one of so many places on. */
 static uint8_t noise[ROOM + SEEDS];
 
 /* ROOM bytes between two guards: as the host writes them, and as the entries see them. */
 struct pages {
     uint8_t *host, *entry;
-};
-
-struct entered {
-    uint64_t infer, run;
 };
 
 static void fail(const char *what)
@@ -56,47 +52,37 @@ static struct pages new_pages(int access)
     return pages;
 }
 
-/* How many bytes of `out` an inference writes. */
-static size_t written(uint64_t infer)
+/* The sum Adler-32, as zlib has it. */
+static uint32_t sum(const uint8_t *bytes, size_t count)
 {
-    return iltgovruz_code(infer) == ILTGOVRUZ_TYPED ? 4 * (size_t)iltgovruz_payload(infer) : 0;
+    uint64_t low = 1, high = 0;
+    for (size_t i = 0; i < count; i++) {
+        low += bytes[i];
+        high += low;
+    }
+    return (uint32_t)(high % 65521 << 16 | low % 65521);
 }
 
-/* Both calls, with the slices at these places of their pages; and whether every byte that should not change is as before. */
-static int entered_at(struct pages tables, struct pages outs, size_t table, size_t out, const uint32_t head[4], struct entered *answers)
+/* Both calls with the slices at these places of their pages, and their four numbers. */
+static void enter_at(struct pages tables, struct pages outs, size_t table, size_t out, const uint32_t head[4], const uint8_t *bytes)
 {
-    const uint8_t *before = noise + head[3] % SEEDS;
-    memcpy(outs.host, before, ROOM);
-    answers->infer = iltgovruz_infer(tables.entry + table, head[0], outs.entry + out, head[1]);
-    answers->run = iltgovruz_run(tables.entry + table, head[0], head[2]);
-    size_t rest = out + written(answers->infer);
-    return written(answers->infer) <= head[1] && memcmp(outs.host, before, out) == 0 && memcmp(outs.host + rest, before + rest, ROOM - rest) == 0;
-}
-
-static void show(struct entered answers, const uint8_t *out)
-{
-    printf("%" PRIu64 " %" PRIu64 " ", answers.infer, answers.run);
-    for (size_t i = 0; i < written(answers.infer); i++)
-        printf("%02x", out[i]);
-    putchar('\n');
+    memcpy(tables.host + table, bytes, head[0]);
+    memcpy(outs.host, noise + head[3] % SEEDS, ROOM);
+    uint64_t infer = iltgovruz_infer(tables.entry + table, head[0], outs.entry + out, head[1]);
+    uint64_t run = iltgovruz_run(tables.entry + table, head[0], head[2]);
+    printf("%" PRIu64 " %" PRIu64 " %" PRIu32 " %" PRIu32, infer, run, sum(tables.host + table, head[0]), sum(outs.host, ROOM));
 }
 
 static int one_case(struct pages tables, struct pages outs)
 {
     uint32_t head[4];
-    static uint8_t table[ROOM], out[ROOM];
+    static uint8_t table[ROOM];
     if (fread(head, sizeof head, 1, stdin) != 1 || head[0] > ROOM || head[1] > ROOM || fread(table, 1, head[0], stdin) != head[0])
         return 0;
-    struct entered first, last;
-    memcpy(tables.host, table, head[0]);
-    int kept = entered_at(tables, outs, 0, 0, head, &first);
-    memcpy(out, outs.host, head[1]);
-    memcpy(tables.host + ROOM - head[0], table, head[0]);
-    kept &= entered_at(tables, outs, ROOM - head[0], ROOM - head[1], head, &last);
-    if (kept && first.infer == last.infer && first.run == last.run && memcmp(out, outs.host + ROOM - head[1], written(first.infer)) == 0)
-        show(first, out);
-    else
-        puts("STRAY");
+    enter_at(tables, outs, 0, 0, head, table);
+    putchar(' ');
+    enter_at(tables, outs, ROOM - head[0], ROOM - head[1], head, table);
+    putchar('\n');
     return 1;
 }
 

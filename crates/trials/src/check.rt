@@ -4,8 +4,8 @@ use table::Verdict;
 
 fn begin(v: Verdict) {
     match v {
-        Verdict::Accepted(n) => lines::begin(0, n),
-        Verdict::Refused { code, place } => lines::begin(code, place),
+        Verdict::Accepted(n) => lines::begin(0, n as u64),
+        Verdict::Refused { code, place } => lines::begin(code, place as u64),
     }
 }
 

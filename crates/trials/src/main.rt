@@ -8,15 +8,12 @@ mod stores;
 mod types;
 
 use libc::STDIN_FILENO;
-ghost use Prim.Native.Nat.{_≤_};
 ghost use mathlib.Core.Path.{_≡_};
 ghost use lib.ListN.{length};
 
 // Makes a call and writes its line, or tells that it cannot be made. The three numbers are a run's fuel and the lengths of its bindings
 // and frames, or the lengths of inference's work and out.
-fn make_call(words: &[u32], call: u32, first: u32, second: u32, third: u32) -> bool
-    requires { ⌜ length (now words) ≤ 2100 ⌝ }
-{
+fn make_call(words: &[u32], call: u32, first: u32, second: u32, third: u32) -> bool {
     match call {
         0 => check::check(words),
         1 => runs::run(words, first, second as usize, third as usize),

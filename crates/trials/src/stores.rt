@@ -1,4 +1,6 @@
-// Slices to lend, whose words are known before the call and looked at afterwards.
+// Slices to lend, whose words are known before the call, and summed up after it.
+use std::num::wrapping_add_u32;
+ghost use Prim.Native.Nat.{_<_};
 ghost use mathlib.Core.Path.{_≡_};
 ghost use lib.ListN.{length};
 
@@ -8,28 +10,32 @@ pub(crate) fn store() -> [u32; 33000]
     [0; 33000]
 }
 
-pub(crate) fn fill(store: &mut [u32]) {
+// Gives each word of a slice a number of its own, counted from the first one in strides.
+pub(crate) fn fill(store: &mut [u32], first: u32) {
+    let mut word = first;
     let mut i: usize = 0;
     while i < store.len() {
-        store[i] = 7;
+        store[i] = word;
+        word = wrapping_add_u32(word, 100003);
         i += 1;
     }
 }
 
-// Are the words below `zeros` zero, and the others as they were filled?
-pub(crate) fn is_left(store: &[u32], zeros: usize) -> bool {
+// One digit more at the end of a number to the base 1000003, modulo the prime 4294967291.
+fn with_digit(total: u64, word: u32) -> u64
+    requires { ⌜ total < 4294967291 ⌝ }
+    ensures { λ r. ⌜ r < 4294967291 ⌝ }
+{
+    (total * 1000003 + word as u64) % 4294967291
+}
+
+// The number that has the words of a slice as its digits.
+pub(crate) fn sum(store: &[u32]) -> u64 {
+    let mut total: u64 = 0;
     let mut i: usize = 0;
     while i < store.len() {
-        if i < zeros {
-            if store[i] != 0 {
-                return false;
-            }
-        } else {
-            if store[i] != 7 {
-                return false;
-            }
-        }
+        total = with_digit(total, store[i]);
         i += 1;
     }
-    true
+    total
 }

@@ -33,10 +33,18 @@ space-requires : tie.Need-space-requires
 space-requires c κs = search needs
 
 array-share-prefix-bytes : tie.Need-array-share-prefix-bytes
-array-share-prefix-bytes c = back-fits (c .before .before .before .before .before .room .result) {m = 4 * c .before .before .before .before .before .before .before .args .count} (omega arith) (c .before .before .before .read-full .last .1 .0) (c .before .before .before .read-full .kept .1 .0) (omega arith) (omega arith)
+array-share-prefix-bytes c =
+    let reading = c .before .before .before in
+    let making = reading .before .before in
+    back-fits (making .room .result) {m = 4 * making .before .before .args .count} (omega arith)
+    (reading .read-full .last .1 .0) (reading .read-full .kept .1 .0) (omega arith) (omega arith)
 
 slice-aggregate-read-words : tie.Need-slice-aggregate-read-words
-slice-aggregate-read-words c = sym (length-back (c .before .before .before .before .before .before .room .result) {m = 4 * c .before .before .before .before .before .before .before .before .args .count} (omega arith) (c .before .before .before .before .read-full .last .1 .0) (c .before .before .before .before .read-full .kept .1 .0) (omega arith) (omega arith))
+slice-aggregate-read-words c =
+    let reading = c .before .before .before .before in
+    let making = reading .before .before in
+    sym (length-back (making .room .result) {m = 4 * making .before .before .args .count} (omega arith)
+    (reading .read-full .last .1 .0) (reading .read-full .kept .1 .0) (omega arith) (omega arith))
 
 slice-aggregate-read-words-2 : tie.Need-slice-aggregate-read-words-2
 slice-aggregate-read-words-2 c = search needs
@@ -51,7 +59,7 @@ slice-aggregate-make-call : tie.Need-slice-aggregate-make-call
 slice-aggregate-make-call c = sym (length-take-le _ (c .before .before .read-words .last .1 .0) (omega (arith, c .before .before .read-words .kept .1 .0)))
 
 make-call-requires : tie.Need-make-call-requires
-make-call-requires c κs = omega (arith, length-take-le (c .before .before .before .before .before .before .before .before .before .before .before .before .args .count) (c .before .before .read-words .last .1 .0) (omega (arith, c .before .before .read-words .kept .1 .0)))
+make-call-requires c κs = search needs
 
 returns-3 : tie.Need-returns-3
 returns-3 c = search needs

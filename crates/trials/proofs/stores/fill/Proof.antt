@@ -7,10 +7,10 @@ use Rattle.trials.proofs.stores.fill.Statement.{statement}
 use Rattle.trials.proofs.stores.fill.Tie as tie
 
 abbrev Inv-loop : tie.InvT-loop
-Inv-loop store₀ i₀ store i = length store ≡ length store₀
+Inv-loop store₀ first word₀ i₀ store word i = length store ≡ length store₀
 
 abbrev μ-loop : tie.MeasureT-loop
-μ-loop store₀ i₀ store i = length store₀ - i
+μ-loop store₀ first word₀ i₀ store word i = length store₀ - i
 
 loop-holds : tie.Need-loop-holds Inv-loop μ-loop
 loop-holds c = refl
@@ -21,6 +21,9 @@ mul-store c = omega arith
 slice-write-store : tie.Need-slice-write-store Inv-loop μ-loop
 slice-write-store c = omega arith
 
+wrapping-add-u32-requires : tie.Need-wrapping-add-u32-requires Inv-loop μ-loop
+wrapping-add-u32-requires c κs = tt
+
 add-i : tie.Need-add-i Inv-loop μ-loop
 add-i c = omega arith
 
@@ -28,7 +31,7 @@ loop-less : tie.Need-loop-less Inv-loop μ-loop
 loop-less c = omega arith
 
 loop-again : tie.Need-loop-again Inv-loop μ-loop
-loop-again c = simp length-set (c .before .loop .inv)
+loop-again c = simp length-set (c .before .before .loop .inv)
 
 same-length : tie.Need-same-length Inv-loop μ-loop
 same-length c = c .before .loop .inv
@@ -45,6 +48,7 @@ fill-spec =
     loop-holds
     mul-store
     slice-write-store
+    wrapping-add-u32-requires
     add-i
     loop-less
     loop-again

@@ -31,7 +31,7 @@ slice-aggregate-infer-in-2 : tie.Need-slice-aggregate-infer-in-2
 slice-aggregate-infer-in-2 c = sym (length-take-le _ _ (omega arith))
 
 infer-in-requires : tie.Need-infer-in-requires
-infer-in-requires c κs = (omega arith, omega (arith, length-take-le (c .before .before .before .before .before .before .before .args .out-length) (c .before .before .store2 .result) (omega arith)))
+infer-in-requires c κs = search needs
 
 returns-3 : tie.Need-returns-3
 returns-3 c = search needs
