@@ -1,9 +1,9 @@
 -- The program's parts together.
 use Prim.Native.Nat.{ℕ}
 use mathlib.Core.Path.{_≡_, refl, sym, _∙_, ap}
-use mathlib.Core.List.{List, [], _∷_, _++_, foldl}
+use mathlib.Core.List.{List, [], _∷_, _++_}
 use native.Mathlib.Omega.{arith}
-use lib.ListN.{length, take, replicate}
+use lib.ListN.{length, take, replicate, length-replicate}
 use Rattle.inference.specs.Inference.{After, leaves, Infers}
 use Rattle.inference.specs.TypeWithin.{type-within}
 use Rattle.inference.specs.declared.Inferred.{Inferred}
@@ -11,19 +11,20 @@ use Rattle.inference.specs.declared.Inferred.the-variants.{Typed, Refused}
 use Rattle.machine.specs.Runs.{RunIs}
 use Rattle.machine.specs.declared.Ran.{Ran}
 use Rattle.formula.specs.Input.{wordsIn}
-use Rattle.formula.specs.Scan.{ScanState, scanByte, scanned, finish}
-use Rattle.formula.specs.ScanIsWordsIn.{scan-is-words-in, scan-in-pieces}
-use Rattle.formula.specs.Scanning.{scanStateOf, Fed, scannedWords, EndsWith}
+use Rattle.formula.specs.Scan.{ScanState, scanned, finish}
+use Rattle.formula.specs.ScanIsWordsIn.{scan-is-words-in}
+use Rattle.formula.specs.Scanning.{scannedWords, EndsWith}
 use Rattle.formula.specs.Lines.{spaced, typeLine, runLine, inputText}
 use Rattle.formula.specs.Putting.{TextPut, PutWithin, TypeFits, put-then}
 use Rattle.formula.specs.Program.{no-words, answered}
 use Rattle.formula.specs.Responding.{TwoLinesIn, Responds}
-use Rattle.formula.specs.declared.scan.Scanner.{Scanner}
-use Rattle.formula.specs.declared.scan.Scanner.the-variants.{Failed, Between}
 use Rattle.formula.specs.declared.scan.Ended.{Ended}
 use Rattle.formula.specs.declared.scan.Ended.the-variants.{Words, Failed as NoWords}
 
 -- ---- The two lines
+
+pub so-many-zeros : (n : ℕ) {made : List ℕ} → made ≡ replicate n 0 → n ≡ length made
+so-many-zeros n is = sym (ap length is ∙ length-replicate n 0)
 
 pub type-fits : {words work out work′ out′ : List ℕ} {a : Inferred} → Infers words work out (leaves a work′ out′) → length out ≡ 64 → length out′ ≡ 64 → TypeFits a out′
 type-fits {words} {work} {out} {work′} {out′} {a} i same same′ = go a i

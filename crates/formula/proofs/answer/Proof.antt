@@ -1,24 +1,31 @@
 -- `formula::answer` meets its contract.
-use borrow.Author.Needs.{needs}
+use mathlib.Core.Path.{_∙_}
 use Rattle.formula.specs.ReadingLaws.{by-its-bits}
 use Rattle.formula.specs.WholeInput.{read-and-answered}
 use Rattle.formula.proofs.answer.Statement.{statement}
 use Rattle.formula.proofs.answer.Tie as tie
 
 read-input-requires : tie.Need-read-input-requires
-read-input-requires c κs = search needs
+read-input-requires c κs = c .before .before .before .before .before .pre .0
 
 respond-requires : tie.Need-respond-requires
-respond-requires c κs = search needs
+respond-requires c κs =
+    let read = c .before .before .before .before .before .before in
+    (read .read-input .ensures .stands .fits, read .before .before .before .before .before .before .pre .1)
 
 same-length : tie.Need-same-length
-same-length c = search needs
+same-length c =
+    let answered = c .before .before .before .before .before in
+    answered .before .before .before .before .before .before .before .read-input .kept .0
 
 same-length-2 : tie.Need-same-length-2
-same-length-2 c = search needs
+same-length-2 c =
+    let answered = c .before .before .before .before .before in
+    let read = answered .before .before .before .before .before .before .before in
+    answered .respond .kept .1 .0 ∙ read .read-input .kept .1 .0
 
 same-length-3 : tie.Need-same-length-3
-same-length-3 c = search needs
+same-length-3 c = c .before .before .before .before .before .respond .kept .1 .1 .0
 
 returns : tie.Need-returns
 returns c =
