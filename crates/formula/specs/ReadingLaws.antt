@@ -61,9 +61,9 @@ module _ {got : ℤ} (fits : SFits w64 got) where
       go (pos n) test = absurd (omega (arith, ltb-true n 0 test))
       go (negsuc k) test = refl
 
-  pub bytes-came : (start : ScanState) (piece : List ℕ) → ltZ (toZ w64 (ofZ w64 got)) (pos 0) ≡ false →
-      foldl scanByte start (take (clamped (toZ w64 (ofZ w64 got)) (length piece)) piece) ≡ afterRead start got piece
-  bytes-came start piece test = rw (toZ-ofZ fits) (go got (rw (toZ-ofZ fits) at test))
+  pub bytes-came : (start : ScanState) (piece : List ℕ) {n : ℕ} → ltZ (toZ w64 (ofZ w64 got)) (pos 0) ≡ false → n ≡ clamped (toZ w64 (ofZ w64 got)) (length piece) →
+      foldl scanByte start (take n piece) ≡ afterRead start got piece
+  bytes-came start piece test count = rw count (rw (toZ-ofZ fits) (go got (rw (toZ-ofZ fits) at test)))
     where
       go : (got : ℤ) → ltZ got (pos 0) ≡ false → foldl scanByte start (take (clamped got (length piece)) piece) ≡ afterRead start got piece
       go (pos n) test = ap (foldl scanByte start) (take-within n piece)

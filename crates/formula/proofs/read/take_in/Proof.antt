@@ -1,5 +1,5 @@
 -- `formula::read::take_in` meets its contract.
-use mathlib.Core.Path.{ap, _∙_}
+use mathlib.Core.Path.{_∙_}
 use native.Mathlib.Omega.{arith}
 use borrow.Author.Needs.{needs}
 use Rattle.formula.specs.ReadingLaws.{failed-read, bytes-came}
@@ -28,8 +28,8 @@ returns-2 c =
     let fed = c .before .before in
     let counted = fed .before .before .before in
     let start = counted .before .before .before .before in
-    let stands = rw (counted .count .ensures .1) at (fed .feed .ensures .stands) in
-    record { fits = stands .fits; is = stands .is ∙ bytes-came (start .fits .got) _ _ (counted .before .if1 .left) }
+    let stands = fed .feed .ensures .stands in
+    record { fits = stands .fits; is = stands .is ∙ bytes-came (start .fits .got) _ _ (counted .before .if1 .left) (counted .count .ensures .1) }
 
 pub take-in-spec : {M : Type 1} → statement M
 take-in-spec =
