@@ -3,13 +3,11 @@ use Prim.Native.Nat.{ℕ, _+_, _<_}
 use mathlib.Core.Path.{_≡_, refl, sym, _∙_, ap}
 use mathlib.Core.Logic.{_≢_}
 use mathlib.Core.List.{List, [], _∷_, _++_, foldl, flatten}
-use mathlib.Core.Option.{none}
 use native.Mathlib.Omega.{arith}
 use lib.ListN.{length, take, length-append}
 use lib.IntN.{ℤ, pos, negsuc}
-use Rattle.formula.specs.Input.{runs, withoutEmpty, allDigits, numbersOf, wordsIn}
 use Rattle.formula.specs.Scan.{scanByte, scanned}
-use Rattle.formula.specs.ScanIsWordsIn.{failed-stays, scan-in-pieces}
+use Rattle.formula.specs.ScanIsWordsIn.{failed-stays, scan-is-words-in, scan-in-pieces}
 use Rattle.formula.specs.Scanning.{scanStateOf}
 use Rattle.formula.specs.Lines.{inputLine}
 use Rattle.formula.specs.Program.{Prints, no-words, answered}
@@ -51,12 +49,9 @@ answers-whole-input {input} {text} {got} {n} answers given short =
 
 -- After a read that failed the one line `input` is written. Byte 0 is no digit: the answer is that of an input with such a token.
 pub answers-no-input : {text : List ℕ} {k n : ℕ} → AnswersInput (negsuc k) text n → take n text ≡ inputLine
-unfolding scanByte runs withoutEmpty numbersOf allDigits
+unfolding scanByte
 answers-no-input answers = go (answers .responds .to (0 ∷ []) refl)
   where
-    no-token : wordsIn (0 ∷ []) ≡ none
-    no-token = refl
-
     go : {text : List ℕ} → Prints (0 ∷ []) text → text ≡ inputLine
     go (no-words found is) = is
-    go (answered found two) = absurd (let z : _≡_ {A = ℕ} 0 1 = cc in omega arith)
+    go (answered found two) = absurd (let same = scan-is-words-in (0 ∷ []) ∙ found in let z : _≡_ {A = ℕ} 0 1 = cc in omega arith)
