@@ -30,6 +30,7 @@ readsOn (pos zero) s = false
 readsOn (pos (suc n)) s = hasNotFailed s
 readsOn (negsuc k) s = false
 
+-- The answer is within the piece, and the scan took in what came.
 pub record PieceRead (start : ScanState) (piece words : List ℕ) (t : Turn) : Type 0 where
   pub moved : Moved (length piece) (t .got)
   pub stands : Stands words (t .at) (afterRead start (t .got) piece)

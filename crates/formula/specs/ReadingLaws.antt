@@ -1,4 +1,4 @@
--- One read after the other.
+-- A read by its answer, and one read after the other.
 use Prim.Native.Nat.{ℕ, zero, suc, _+_, _-_, _≤_, _<_, min}
 use mathlib.Core.Path.{_≡_, refl, sym, _∙_, ap}
 use mathlib.Core.Bool.{Bool, true, false, not}
@@ -17,8 +17,9 @@ use Rattle.io.specs.Counts.{clamped}
 use Rattle.libc.specs.Io.{Moved}
 use Rattle.formula.specs.Scan.{ScanState, failed, scanByte, scanned}
 use Rattle.formula.specs.ScanIsWordsIn.{scan-in-pieces}
-use Rattle.formula.specs.Scanning.{scanStateOf, ScanRoom, Stands}
-use Rattle.formula.specs.Reading.{afterRead, hasNotFailed, readsOn, PieceRead, NoneEmpty, no-piece, one-more, afterReads, at-the-end, scan-failed, read-failed, turns-used-up, ReadingEnds, InputRead}
+use Rattle.formula.specs.Scanning.{scanStateOf, Stands}
+use Rattle.formula.specs.Reading.{afterRead, hasNotFailed, readsOn, PieceRead, NoneEmpty, no-piece, one-more, afterReads}
+use Rattle.formula.specs.Reading.{ReadingEnds, at-the-end, scan-failed, read-failed, turns-used-up, InputRead}
 use Rattle.formula.specs.declared.scan.Scanner.{Scanner}
 use Rattle.formula.specs.declared.scan.Scanner.the-variants.{Failed, Between, Inside}
 use Rattle.formula.specs.declared.read.Turn.{Turn}
@@ -96,14 +97,15 @@ pieces-within (one-more {piece = piece} pieces) = rw length-append (omega (arith
 
 -- ---- A read
 
--- The reads so far, with so many turns left.
+-- The reads so far, with so many turns left: if the last gave some bytes, then all did.
 pub record ReadSoFar (turns : ℕ) (words : List ℕ) (t : Turn) : Type 0 where
   pub pieces : List (List ℕ)
   pub none-empty : NoneEmpty pieces
   pub stands : Stands words (t .at) (afterReads (t .got) (flatten pieces))
   pub counted : {n : ℕ} → t .got ≡ pos (suc n) → length pieces + turns ≡ 18446744073709551616
 
-module _ {turns : ℕ} {start : ScanState} {pieces : List (List ℕ)} (none-empty : NoneEmpty pieces) (leads : start ≡ scanned (flatten pieces)) (counted : length pieces + suc turns ≡ 18446744073709551616) where
+module _ {turns : ℕ} {start : ScanState} {pieces : List (List ℕ)} (none-empty : NoneEmpty pieces) (leads : start ≡ scanned (flatten pieces))
+    (counted : length pieces + suc turns ≡ 18446744073709551616) where
   pub read-more : {piece words : List ℕ} {t : Turn} → PieceRead start piece words t → ReadSoFar turns words t
   read-more {piece} {words} {t} read = go (t .got) refl (read .moved) (read .stands)
     where
@@ -121,12 +123,12 @@ pub read-first : {piece words : List ℕ} {t : Turn} → PieceRead (scanned []) 
 unfolding flatten
 read-first = read-more no-piece refl refl
 
--- Some bytes came, and the scan goes on.
-pub record GoesOn (t : Turn) : Type 0 where
-  pub more : ℕ
-  pub some : t .got ≡ pos (suc more)
+-- Some bytes came.
+record GoesOn (t : Turn) : Type 0 where
+  more : ℕ
+  some : t .got ≡ pos (suc more)
 
-pub goes-on : (t : Turn) → readsOn (t .got) (t .at) ≡ true → GoesOn t
+goes-on : (t : Turn) → readsOn (t .got) (t .at) ≡ true → GoesOn t
 goes-on t on = go (t .got) refl on
   where
     go : (got : ℤ) → t .got ≡ got → readsOn got (t .at) ≡ true → GoesOn t

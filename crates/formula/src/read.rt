@@ -1,10 +1,11 @@
 // The input, piece by piece, until its end, or until its scan has failed: no further byte would change that.
 //
-// What is left to libc is that `read` gives the next bytes of the input, and that it answers 0 only at its end. Whatever it answers and
-// leaves in the piece, the contracts say what becomes of it.
+// Whatever a read answers and leaves in the piece, the contracts say what becomes of it. No contract says that a read was made, or that
+// it gave the next bytes of the input and answers 0 only at its end: that is left to libc and to the one line that calls it.
 use crate::scan;
 use libc::STDIN_FILENO;
 use scan::Scanner;
+ghost use Prim.Native.Nat.{_≤_};
 ghost use mathlib.Core.Path.{_≡_};
 ghost use lib.ListN.{length};
 ghost use Rattle.formula.specs.Scanning.{scanStateOf, ScanRoom, Stands};
@@ -42,9 +43,9 @@ fn take_in(s: Scanner, got: isize, piece: &[u8], words: &mut [u32]) -> Scanner
     scan::feed(s, &piece[..n], words)
 }
 
-// Reads once.
+// Reads once. A read into a piece without bytes would answer 0 before the input's end.
 fn read_piece(s: Scanner, piece: &mut [u8], words: &mut [u32]) -> Turn
-    requires { ⌜ ScanRoom (now words) s ⌝ }
+    requires { ⌜ ScanRoom (now words) s × (1 ≤ length (now piece)) ⌝ }
     ensures { λ t. ⌜ PieceRead (scanStateOf (now (words .entry)) s) (now (piece .exit)) (now (words .exit)) t ⌝ }
 {
     let got = libc::read(STDIN_FILENO, piece);
@@ -54,7 +55,7 @@ fn read_piece(s: Scanner, piece: &mut [u8], words: &mut [u32]) -> Turn
 
 // A proved loop has to end, and nothing says that the input does: it counts down from a number that no run uses up.
 pub(crate) fn read_input(piece: &mut [u8], words: &mut [u32]) -> Turn
-    requires { ⌜ length (now words) ≡ 2048 ⌝ }
+    requires { ⌜ (1 ≤ length (now piece)) × (length (now words) ≡ 2048) ⌝ }
     ensures { λ t. ⌜ InputRead (now (words .exit)) t ⌝ }
 {
     let mut turn = read_piece(Scanner::Between(0), piece, words);

@@ -6,12 +6,14 @@ use Rattle.formula.proofs.answer.Statement.{statement}
 use Rattle.formula.proofs.answer.Tie as tie
 
 read-input-requires : tie.Need-read-input-requires
-read-input-requires c κs = c .before .before .before .before .before .pre .0
+read-input-requires c κs =
+    let pre = c .before .before .before .before .before .pre in
+    (pre .0, pre .1)
 
 respond-requires : tie.Need-respond-requires
 respond-requires c κs =
     let read = c .before .before .before .before .before .before in
-    (read .read-input .ensures .stands .fits, read .before .before .before .before .before .before .pre .1)
+    (read .read-input .ensures .stands .fits, read .before .before .before .before .before .before .pre .2)
 
 same-length : tie.Need-same-length
 same-length c =

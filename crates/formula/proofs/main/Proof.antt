@@ -1,5 +1,6 @@
 -- `formula::main` is safe, and prints only what answers the input.
 use mathlib.Core.Path.{refl, sym}
+use native.Mathlib.Omega.{arith}
 use Rattle.formula.proofs.main.Statement.{statement}
 use Rattle.formula.proofs.main.Tie as tie
 
@@ -16,7 +17,7 @@ slice-aggregate-answer-3 : tie.Need-slice-aggregate-answer-3
 slice-aggregate-answer-3 c = refl
 
 answer-requires : tie.Need-answer-requires
-answer-requires c κs = (refl, refl)
+answer-requires c κs = (omega (arith, c .before .before .before .buffer .ensures), refl, refl)
 
 slice-aggregate-print : tie.Need-slice-aggregate-print
 slice-aggregate-print c = sym (c .before .before .before .before .answer .kept .1 .1 .0)

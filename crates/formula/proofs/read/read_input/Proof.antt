@@ -1,5 +1,4 @@
--- `formula::read::read_input` meets its contract. The loop's invariant: the scan went through all pieces so far, and each read but the last
--- gave some bytes.
+-- `formula::read::read_input` meets its contract. The loop's invariant: the scan went through all pieces so far.
 use mathlib.Core.Path.{_≡_, refl, sym, _∙_}
 use native.Mathlib.Omega.{arith}
 use lib.ListN.{length}
@@ -14,7 +13,9 @@ abbrev μ-loop : tie.MeasureT-loop
 μ-loop piece₀ words₀ turn₀ turns₀ piece words turn turns = turns
 
 read-piece-requires : tie.Need-read-piece-requires Inv-loop μ-loop
-read-piece-requires c κs = record { room = c .before .before .before .before .pre; counted = omega arith }
+read-piece-requires c κs =
+    let pre = c .before .before .before .before .pre in
+    (record { room = pre .1; counted = omega arith }, pre .0)
 
 loop-holds : tie.Need-loop-holds Inv-loop μ-loop
 loop-holds c = (refl, read-first (c .before .before .before .before .read-piece .ensures))
@@ -23,7 +24,11 @@ reads-on-requires : tie.Need-reads-on-requires Inv-loop μ-loop
 reads-on-requires c κs = tt
 
 read-piece-requires-2 : tie.Need-read-piece-requires-2 Inv-loop μ-loop
-read-piece-requires-2 c κs = c .before .before .before .before .before .before .loop .inv .1 .stands .fits
+read-piece-requires-2 c κs =
+    let turn = c .before .before .before .before .before .before in
+    let entered = turn .before .before .before .before .before in
+    let start = entered .before .before .before .before .before in
+    (turn .loop .inv .1 .stands .fits, omega (arith, turn .loop .inv .0, entered .read-piece .kept .1 .0, start .pre .0))
 
 sub-turns : tie.Need-sub-turns Inv-loop μ-loop
 sub-turns c = let asked = c .before .before .before .before .before in omega (arith, asked .before .before .before .before .before .loop-test .taken)
@@ -35,10 +40,10 @@ loop-again : tie.Need-loop-again Inv-loop μ-loop
 loop-again c =
     let read = c .before .before .before .before in
     let on = read .before .before .before in
-    let tested = on .before .before .before in (
-      read .read-piece2 .kept .1 .0 ∙ tested .before .loop .inv .0,
-      read-next (tested .before .loop .inv .1) (tested .loop-test .taken) (going-on (tested .before .loop .turn) (on .before .before .struct-told .given .0 .1) (on .before .reads-on .ensures) (on .if1 .left)) (read .read-piece2 .ensures),
-    )
+    let tested = on .before .before .before in
+    let turn = tested .before .loop in
+    let more = going-on (turn .turn) (on .before .before .struct-told .given .0 .1) (on .before .reads-on .ensures) (on .if1 .left) in
+    (read .read-piece2 .kept .1 .0 ∙ turn .inv .0, read-next (turn .inv .1) (tested .loop-test .taken) more (read .read-piece2 .ensures))
 
 same-length : tie.Need-same-length Inv-loop μ-loop
 same-length c =
@@ -50,11 +55,12 @@ same-length-2 : tie.Need-same-length-2 Inv-loop μ-loop
 same-length-2 c =
     let turn = c .before .before .before .before in
     let entered = turn .before .before .before .before .before in
-    turn .loop .inv .1 .stands .fits .room ∙ sym (entered .before .before .before .before .before .pre)
+    turn .loop .inv .1 .stands .fits .room ∙ sym (entered .before .before .before .before .before .pre .1)
 
 returns : tie.Need-returns Inv-loop μ-loop
 returns c =
-    reading-over (c .before .before .before .before .loop .inv .1) (going-over (c .before .before .before .before .loop .turn) (c .before .before .struct-told .given .0 .1) (c .before .reads-on .ensures) (c .if1 .taken))
+    let turn = c .before .before .before .before .loop in
+    reading-over (turn .inv .1) (going-over (turn .turn) (c .before .before .struct-told .given .0 .1) (c .before .reads-on .ensures) (c .if1 .taken))
 
 same-length-3 : tie.Need-same-length-3 Inv-loop μ-loop
 same-length-3 c =
@@ -64,7 +70,7 @@ same-length-3 c =
 same-length-4 : tie.Need-same-length-4 Inv-loop μ-loop
 same-length-4 c =
     let entered = c .before .before .before .before .before .before in
-    c .before .loop .inv .1 .stands .fits .room ∙ sym (entered .before .before .before .before .before .pre)
+    c .before .loop .inv .1 .stands .fits .room ∙ sym (entered .before .before .before .before .before .pre .1)
 
 returns-2 : tie.Need-returns-2 Inv-loop μ-loop
 returns-2 c = turns-over (c .before .loop .inv .1) (omega (arith, c .loop-test .left))
