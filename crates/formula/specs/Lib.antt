@@ -13,11 +13,15 @@ pub mod DecimalLaws
 -- The code of the scan.
 pub mod Scanning
 pub mod ScanningLaws
+-- The code of the reads.
+pub mod Reading
+pub mod ReadingLaws
 -- The code of the lines.
 pub mod Putting
 pub mod PrintingLaws
 -- The program.
 pub mod Responding
 pub mod ProgramLaws
+pub mod WholeInput
 pub mod PrintsOnce
 pub mod Examples

@@ -1,9 +1,9 @@
 -- The program's parts together.
 use Prim.Native.Nat.{ℕ}
 use mathlib.Core.Path.{_≡_, refl, sym, _∙_, ap}
-use mathlib.Core.List.{List, [], _∷_, _++_, foldl}
+use mathlib.Core.List.{List, [], _∷_, _++_}
 use native.Mathlib.Omega.{arith}
-use lib.ListN.{length, take, replicate}
+use lib.ListN.{length, take, replicate, length-replicate}
 use Rattle.inference.specs.Inference.{After, leaves, Infers}
 use Rattle.inference.specs.TypeWithin.{type-within}
 use Rattle.inference.specs.declared.Inferred.{Inferred}
@@ -11,39 +11,20 @@ use Rattle.inference.specs.declared.Inferred.the-variants.{Typed, Refused}
 use Rattle.machine.specs.Runs.{RunIs}
 use Rattle.machine.specs.declared.Ran.{Ran}
 use Rattle.formula.specs.Input.{wordsIn}
-use Rattle.formula.specs.Scan.{State, scanByte, scanned, finish}
-use Rattle.formula.specs.ScanIsWordsIn.{scan-is-words-in, scan-in-pieces}
-use Rattle.formula.specs.Scanning.{stateOf, Fed, scannedWords, EndsWith}
+use Rattle.formula.specs.Scan.{ScanState, scanned, finish}
+use Rattle.formula.specs.ScanIsWordsIn.{scan-is-words-in}
+use Rattle.formula.specs.Scanning.{scannedWords, EndsWith}
 use Rattle.formula.specs.Lines.{spaced, typeLine, runLine, inputText}
-use Rattle.formula.specs.Putting.{Put, PutWithin, TypeFits, put-then}
+use Rattle.formula.specs.Putting.{TextPut, PutWithin, TypeFits, put-then}
 use Rattle.formula.specs.Program.{no-words, answered}
-use Rattle.formula.specs.Responding.{TwoLinesIn, Responds, Reached}
-use Rattle.formula.specs.declared.scan.Scanner.{Scanner}
-use Rattle.formula.specs.declared.scan.Scanner.the-variants.{Failed, Between}
+use Rattle.formula.specs.Responding.{TwoLinesIn, Responds}
 use Rattle.formula.specs.declared.scan.Ended.{Ended}
 use Rattle.formula.specs.declared.scan.Ended.the-variants.{Words, Failed as NoWords}
 
--- ---- Reading
-
-module _ {words : List ℕ} (room : length words ≡ 2048) where
-  pub reached-first : Reached words (Between 0)
-  reached-first = record { input = []; stands = record { fits = record { room = room; counted = omega arith }; is = refl } }
-
-  -- Byte 0 is no digit.
-  pub reached-failed : Reached words Failed
-  unfolding scanByte
-  reached-failed = record { input = 0 ∷ []; stands = record { fits = record { room = room; counted = omega arith }; is = refl } }
-
-pub reached-more : {piece words words′ : List ℕ} {s s′ : Scanner} (reached : Reached words s) → Fed (stateOf words s) piece words′ s′ → Reached words′ s′
-reached-more {piece} reached fed = record {
-  input = reached .input ++ piece;
-  stands = record {
-    fits = fed .stands .fits;
-    is = fed .stands .is ∙ ap (λ state. foldl scanByte state piece) (reached .stands .is) ∙ sym (scan-in-pieces (reached .input) piece);
-  };
-}
-
 -- ---- The two lines
+
+pub so-many-zeros : (n : ℕ) {made : List ℕ} → made ≡ replicate n 0 → n ≡ length made
+so-many-zeros n is = sym (ap length is ∙ length-replicate n 0)
 
 pub type-fits : {words work out work′ out′ : List ℕ} {a : Inferred} → Infers words work out (leaves a work′ out′) → length out ≡ 64 → length out′ ≡ 64 → TypeFits a out′
 type-fits {words} {work} {out} {work′} {out′} {a} i same same′ = go a i
@@ -70,7 +51,7 @@ two-lines-put {after = after} {ran} {bindings} {frames} size infers runs type ru
 
 -- ---- The response
 
-module _ {state : State} {words : List ℕ} {ended : Ended} (ends : EndsWith words ended (finish state)) where
+module _ {state : ScanState} {words : List ℕ} {ended : Ended} (ends : EndsWith words ended (finish state)) where
   -- The words of every input that leads to the state.
   found : (input : List ℕ) → scanned input ≡ state → wordsIn input ≡ scannedWords words ended
   found input leads = sym (scan-is-words-in input) ∙ ap finish leads ∙ sym (ends .is)
@@ -78,7 +59,7 @@ module _ {state : State} {words : List ℕ} {ended : Ended} (ends : EndsWith wor
   pub responds-lines : {count n : ℕ} {text : List ℕ} → ended ≡ Words count → TwoLinesIn (take count words) text n → Responds state text n
   responds-lines is two = record { inside = two .inside; to = λ input leads. answered (found input leads ∙ ap (scannedWords words) is) (two .lines) }
 
-  pub responds-input : {n : ℕ} {text text′ : List ℕ} → ended ≡ NoWords → length text ≡ 1024 → Put text 0 (inputText ++ 10 ∷ []) text′ n → Responds state text′ n
+  pub responds-input : {n : ℕ} {text text′ : List ℕ} → ended ≡ NoWords → length text ≡ 1024 → TextPut text 0 (inputText ++ 10 ∷ []) text′ n → Responds state text′ n
   unfolding spaced
   responds-input is size put = record {
     inside = omega (arith, put .next-is, put .same-length);

@@ -11,7 +11,7 @@ use Rattle.inference.specs.declared.Inferred.the-variants.{Typed, Refused as No
 use Rattle.formula.specs.Lines.{spaced, line}
 
 -- Those bytes stand there, and all others are as before.
-pub record Put (before : List ℕ) (at : ℕ) (bytes after : List ℕ) (next : ℕ) : Type 0 where
+pub record TextPut (before : List ℕ) (at : ℕ) (bytes after : List ℕ) (next : ℕ) : Type 0 where
   pub next-is : next ≡ at + length bytes
   pub same-length : length after ≡ length before
   pub there : take next after ≡ take at before ++ bytes
@@ -19,7 +19,7 @@ pub record Put (before : List ℕ) (at : ℕ) (bytes after : List ℕ) (next : �
 
 -- The same, and the bytes are at most so many.
 pub record PutWithin (most : ℕ) (before : List ℕ) (at : ℕ) (bytes after : List ℕ) (next : ℕ) : Type 0 where
-  pub put : Put before at bytes after next
+  pub put : TextPut before at bytes after next
   pub ends : next ≤ at + most
 
 -- The type's words are the first of 64 at most.
@@ -29,10 +29,10 @@ TypeFits (NoType code place) out = Unit {0}
 
 -- ---- One after the other
 
-pub put-none : (text : List ℕ) (at : ℕ) → Put text at [] text at
+pub put-none : (text : List ℕ) (at : ℕ) → TextPut text at [] text at
 put-none text at = record { next-is = omega arith; same-length = refl; there = sym (append-nil (take at text)); rest = refl }
 
-pub put-one : (text : List ℕ) {at : ℕ} (b : ℕ) → at < length text → Put text at (b ∷ []) (set text at b) (at + 1)
+pub put-one : (text : List ℕ) {at : ℕ} (b : ℕ) → at < length text → TextPut text at (b ∷ []) (set text at b) (at + 1)
 put-one text {at} b inside = rw add-one (record {
   next-is = omega arith;
   same-length = length-set text at b;
@@ -40,7 +40,7 @@ put-one text {at} b inside = rw add-one (record {
   rest = drop-set-lt (suc at) text at b (omega arith);
 })
 
-pub put-then : {text text₁ text₂ bytes₁ bytes₂ : List ℕ} {at at₁ at₂ : ℕ} → Put text at bytes₁ text₁ at₁ → Put text₁ at₁ bytes₂ text₂ at₂ → Put text at (bytes₁ ++ bytes₂) text₂ at₂
+pub put-then : {text text₁ text₂ bytes₁ bytes₂ : List ℕ} {at at₁ at₂ : ℕ} → TextPut text at bytes₁ text₁ at₁ → TextPut text₁ at₁ bytes₂ text₂ at₂ → TextPut text at (bytes₁ ++ bytes₂) text₂ at₂
 put-then {text} {text₁} {text₂} {bytes₁} {bytes₂} {at} {at₁} {at₂} p q = record {
   next-is = rw length-append (omega (arith, p .next-is, q .next-is));
   same-length = q .same-length ∙ p .same-length;
@@ -70,7 +70,7 @@ pub spaced-one : (text : List ℕ) → spaced (text ∷ []) ≡ 32 ∷ text
 unfolding spaced
 spaced-one text = ap (λ t. 32 ∷ t) (append-nil text)
 
-pub line-begins : {text text₁ first : List ℕ} {at at₁ : ℕ} → Put text at first text₁ at₁ → PutWithin (length first) text at (first ++ spaced []) text₁ at₁
+pub line-begins : {text text₁ first : List ℕ} {at at₁ : ℕ} → TextPut text at first text₁ at₁ → PutWithin (length first) text at (first ++ spaced []) text₁ at₁
 unfolding spaced
 line-begins {first = first} p = rw (append-nil first) (record { put = p; ends = omega (arith, p .next-is) })
 
@@ -82,5 +82,5 @@ module _ {most : ℕ} {text text₁ : List ℕ} (first : List ℕ) {at at₁ : �
   pub line-more : {more : ℕ} {other text₂ : List ℕ} {at₂ : ℕ} → PutWithin more text₁ at₁ (32 ∷ other) text₂ at₂ → PutWithin (most + more) text at (first ++ spaced (texts ++ other ∷ [])) text₂ at₂
   line-more {other = other} p = line-goes-on (other ∷ []) (rw (spaced-one other) p)
 
-  pub line-ends : {text₂ : List ℕ} {at₂ : ℕ} → Put text₁ at₁ (10 ∷ []) text₂ at₂ → PutWithin (most + 1) text at (line first texts) text₂ at₂
+  pub line-ends : {text₂ : List ℕ} {at₂ : ℕ} → TextPut text₁ at₁ (10 ∷ []) text₂ at₂ → PutWithin (most + 1) text at (line first texts) text₂ at₂
   line-ends p = within-then so-far (record { put = p; ends = omega (arith, p .next-is) })

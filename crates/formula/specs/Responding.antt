@@ -1,12 +1,12 @@
 -- What the parts of the program keep to, from a scan to the text that answers it.
 use Prim.Native.Nat.{ℕ, _≤_}
 use mathlib.Core.Path.{_≡_}
-use mathlib.Core.List.{List}
+use mathlib.Core.List.{List, flatten}
 use lib.ListN.{length, take}
-use Rattle.formula.specs.Scan.{State, scanned}
-use Rattle.formula.specs.Scanning.{Stands}
+use lib.IntN.{ℤ}
+use Rattle.formula.specs.Scan.{ScanState, scanned}
 use Rattle.formula.specs.Program.{TwoLines, Prints}
-use Rattle.formula.specs.declared.scan.Scanner.{Scanner}
+use Rattle.formula.specs.Reading.{afterReads, Reads}
 
 -- The first n bytes of the text are a table's two lines.
 pub record TwoLinesIn (words text : List ℕ) (n : ℕ) : Type 0 where
@@ -14,11 +14,11 @@ pub record TwoLinesIn (words text : List ℕ) (n : ℕ) : Type 0 where
   pub lines : TwoLines words (take n text)
 
 -- That is printed for every input that leads to the state.
-pub record Responds (state : State) (text : List ℕ) (n : ℕ) : Type 0 where
+pub record Responds (state : ScanState) (text : List ℕ) (n : ℕ) : Type 0 where
   pub inside : n ≤ length text
   pub to : (input : List ℕ) → scanned input ≡ state → Prints input (take n text)
 
--- The scanner stands where some input leads to. Which one, no contract can say: that of `read` is silent on the bytes that came.
-pub record Reached (words : List ℕ) (s : Scanner) : Type 0 where
-  pub input : List ℕ
-  pub stands : Stands words s (scanned input)
+-- The first n bytes of the text answer the input that was read, of which the last read answered that.
+pub record AnswersInput (got : ℤ) (text : List ℕ) (n : ℕ) : Type 0 where
+  pub reads : Reads got
+  pub responds : Responds (afterReads got (flatten (reads .pieces))) text n

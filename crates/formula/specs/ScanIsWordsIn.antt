@@ -10,7 +10,7 @@ use lib.Dec.{ltb, leb}
 use lib.ListN.{length, length-append}
 use borrow.Author.Tests.{ltb-true, ltb-false, lt-leb, le-leb}
 use Rattle.formula.specs.Input.{isSpace, afterByte, runs, withoutEmpty, tokens, isDigit, withDigit, wordLimit, numberOf, both, numbersOf, wordsIn}
-use Rattle.formula.specs.Scan.{State, failed, reading, valueSoFar, withWord, closed, grown, scanByte, atFirst, scanned, wordsRead, finish}
+use Rattle.formula.specs.Scan.{ScanState, failed, reading, valueSoFar, withWord, closed, grown, scanByte, atFirst, scanned, wordsRead, finish}
 use Rattle.formula.specs.TokenLaws.{joined, joined-first, joined-ended, joined-longer, Runs, runs-are, some-run, Begun, between, within, begun-number, no-number-longer, no-digit, grows, too-large}
 
 -- ---- Words, and tokens after them
@@ -60,7 +60,7 @@ answer-no-number words token others is = rw is (go (leb (length words + suc (len
 
 -- ---- A token ends
 
-module _ (goesOn : State → Option (List ℕ)) (others : List (List ℕ)) (stays : goesOn failed ≡ none)
+module _ (goesOn : ScanState → Option (List ℕ)) (others : List (List ℕ)) (stays : goesOn failed ≡ none)
     (reads : (words : List ℕ) → length words ≤ 2048 → goesOn (reading words none) ≡ answer words (withoutEmpty others)) where
   ends : (words : List ℕ) {run : List ℕ} {token : Option ℕ} → length words ≤ 2048 → Begun run token → goesOn (closed words token) ≡ answer words (withoutEmpty (run ∷ others))
   unfolding withoutEmpty
@@ -75,10 +75,15 @@ module _ (goesOn : State → Option (List ℕ)) (others : List (List ℕ)) (stay
 
 -- ---- The whole input
 
-failed-stays : (input : List ℕ) → finish (foldl scanByte failed input) ≡ none
+-- No byte more changes a scan that has failed.
+pub failed-stays : (input : List ℕ) → foldl scanByte failed input ≡ failed
 unfolding scanByte
 failed-stays [] = refl
 failed-stays (b ∷ input) = failed-stays input
+
+failed-ends : (input : List ℕ) → finish (foldl scanByte failed input) ≡ none
+unfolding scanByte
+failed-ends input = ap finish (failed-stays input)
 
 -- A token that begins so is no number.
 refused : (words : List ℕ) (run : List ℕ) (b : ℕ) (input : List ℕ) → numberOf (run ++ b ∷ []) ≡ none → none ≡ answer words (withoutEmpty (joined (run ++ b ∷ []) (runs input)))
@@ -100,7 +105,7 @@ module _ (b : ℕ) (input : List ℕ) (rest : ReadsRest input) (words : List ℕ
     where
       go : (below : Bool) → ltb (withDigit (valueSoFar token) b) wordLimit ≡ below → finish (foldl scanByte (grown words (withDigit (valueSoFar token) b)) input) ≡ answer words (withoutEmpty (joined (run ++ b ∷ []) (runs input)))
       go true e = rw e (rest .from words fits (grows begun b digit (ltb-true _ _ e)))
-      go false e = rw e (failed-stays input ∙ refused words run b input (too-large begun b digit (ltb-false _ _ e)))
+      go false e = rw e (failed-ends input ∙ refused words run b input (too-large begun b digit (ltb-false _ _ e)))
 
   one-byte : finish (foldl scanByte (scanByte (reading words token) b) input) ≡ answer words (withoutEmpty (joined run (runs (b ∷ input))))
   unfolding scanByte runs joined
@@ -108,9 +113,9 @@ module _ (b : ℕ) (input : List ℕ) (rest : ReadsRest input) (words : List ℕ
     where
       go : (space digit : Bool) → isSpace b ≡ space → isDigit b ≡ digit →
           finish (foldl scanByte (cond (isSpace b) (closed words token) (cond (isDigit b) (grown words (withDigit (valueSoFar token) b)) failed)) input) ≡ answer words (withoutEmpty (joined run (afterByte (isSpace b) b (runs input))))
-      go true digit s d = rw (s, joined-ended run (runs input)) (ends (λ state. finish (foldl scanByte state input)) (runs input) (failed-stays input) (λ words fits. rest .from words fits between) words fits begun)
+      go true digit s d = rw (s, joined-ended run (runs input)) (ends (λ state. finish (foldl scanByte state input)) (runs input) (failed-ends input) (λ words fits. rest .from words fits between) words fits begun)
       go false true s d = rw (s, d, joined-longer run b (runs input)) (a-digit d)
-      go false false s d = rw (s, d, joined-longer run b (runs input)) (failed-stays input ∙ refused words run b input (no-digit begun b d))
+      go false false s d = rw (s, d, joined-longer run b (runs input)) (failed-ends input ∙ refused words run b input (no-digit begun b d))
 
 reads-rest : (input : List ℕ) → ReadsRest input
 unfolding runs scanByte withoutEmpty

@@ -7,16 +7,16 @@ use mathlib.Core.Option.{Option, none, some}
 use lib.Dec.{ltb}
 use lib.ListN.{length, take}
 use Rattle.formula.specs.Input.{isDigit, withDigit, wordLimit}
-use Rattle.formula.specs.Scan.{State, failed, reading, scanByte}
+use Rattle.formula.specs.Scan.{ScanState, failed, reading, scanByte}
 use Rattle.formula.specs.declared.scan.Scanner.{Scanner}
 use Rattle.formula.specs.declared.scan.Scanner.the-variants.{Failed, Between, Inside}
 use Rattle.formula.specs.declared.scan.Ended.{Ended}
 use Rattle.formula.specs.declared.scan.Ended.the-variants.{Words, Failed as NoWords}
 
-abbrev pub stateOf : List ℕ → Scanner → State
-stateOf words Failed = failed
-stateOf words (Between count) = reading (take count words) none
-stateOf words (Inside count value) = reading (take count words) (some value)
+abbrev pub scanStateOf : List ℕ → Scanner → ScanState
+scanStateOf words Failed = failed
+scanStateOf words (Between count) = reading (take count words) none
+scanStateOf words (Inside count value) = reading (take count words) (some value)
 
 abbrev pub scannedCount : Scanner → ℕ
 scannedCount Failed = 0
@@ -24,17 +24,17 @@ scannedCount (Between count) = count
 scannedCount (Inside count value) = count
 
 -- The slice has 2,048 words, and no more are counted.
-pub record Fits (words : List ℕ) (s : Scanner) : Type 0 where
+pub record ScanRoom (words : List ℕ) (s : Scanner) : Type 0 where
   pub room : length words ≡ 2048
   pub counted : scannedCount s ≤ 2048
 
 -- The scanner stands for that state.
-pub record Stands (words : List ℕ) (s : Scanner) (state : State) : Type 0 where
-  pub fits : Fits words s
-  pub is : stateOf words s ≡ state
+pub record Stands (words : List ℕ) (s : Scanner) (state : ScanState) : Type 0 where
+  pub fits : ScanRoom words s
+  pub is : scanStateOf words s ≡ state
 
 -- It stands where the piece leads from that start.
-pub record Fed (start : State) (piece words : List ℕ) (s : Scanner) : Type 0 where
+pub record Fed (start : ScanState) (piece words : List ℕ) (s : Scanner) : Type 0 where
   pub stands : Stands words s (foldl scanByte start piece)
 
 abbrev pub scannedWords : List ℕ → Ended → Option (List ℕ)

@@ -11,8 +11,8 @@ use lib.ListN.{length, take, drop, getD, set, length-set, drop-of-length-le}
 use lib.Seq.{length-take-le, take-suc-set, drop-cons}
 use borrow.Author.Tests.{lt-ltb, le-ltb}
 use Rattle.formula.specs.Input.{isSpace, isDigit, withDigit, wordLimit}
-use Rattle.formula.specs.Scan.{State, failed, reading, valueSoFar, withWord, scanByte, wordsRead, finish}
-use Rattle.formula.specs.Scanning.{stateOf, scannedCount, Fits, Stands, Fed, scannedWords, wordCount, EndsWith, digitRead}
+use Rattle.formula.specs.Scan.{ScanState, failed, reading, valueSoFar, withWord, scanByte, wordsRead, finish}
+use Rattle.formula.specs.Scanning.{scanStateOf, scannedCount, ScanRoom, Stands, Fed, scannedWords, wordCount, EndsWith, digitRead}
 use Rattle.formula.specs.declared.scan.Scanner.{Scanner}
 use Rattle.formula.specs.declared.scan.Scanner.the-variants.{Failed, Between, Inside}
 use Rattle.formula.specs.declared.scan.Ended.{Ended}
@@ -51,7 +51,7 @@ module _ {words : List ℕ} {count : ℕ} (room : length words ≡ 2048) (counte
       go false below = record { fits = record { room = room; counted = omega arith }; is = refl }
 
 pub space-inside : (words : List ℕ) {words′ : List ℕ} (b : ℕ) {s s′ : Scanner} {count value : ℕ} → s ≡ Inside count value → isSpace b ≡ true →
-    Stands words′ s′ (withWord (take count words) value) → Stands words′ s′ (scanByte (stateOf words s) b)
+    Stands words′ s′ (withWord (take count words) value) → Stands words′ s′ (scanByte (scanStateOf words s) b)
 unfolding scanByte
 space-inside words b is space stands = rw (is, space) stands
 
@@ -62,26 +62,26 @@ stays-failed b room = record { fits = record { room = room; counted = omega arit
 -- ---- Many bytes
 
 -- What is left of the piece leads from here to where the whole leads from the start.
-pub record Feeding (piece : List ℕ) (start : State) (words : List ℕ) (s : Scanner) (i : ℕ) : Type 0 where
-  pub fits : Fits words s
-  pub rest : foldl scanByte (stateOf words s) (drop i piece) ≡ foldl scanByte start piece
+pub record Feeding (piece : List ℕ) (start : ScanState) (words : List ℕ) (s : Scanner) (i : ℕ) : Type 0 where
+  pub fits : ScanRoom words s
+  pub rest : foldl scanByte (scanStateOf words s) (drop i piece) ≡ foldl scanByte start piece
 
-pub fed-none : {words piece : List ℕ} {s : Scanner} → Fits words s → Feeding piece (stateOf words s) words s 0
+pub fed-none : {words piece : List ℕ} {s : Scanner} → ScanRoom words s → Feeding piece (scanStateOf words s) words s 0
 fed-none fits = record { fits = fits; rest = refl }
 
-pub fed-one : {piece words words′ : List ℕ} {start : State} {s s′ : Scanner} {i : ℕ} → Feeding piece start words s i → i < length piece →
-    Stands words′ s′ (scanByte (stateOf words s) (getD piece i 0)) → Feeding piece start words′ s′ (i + 1)
+pub fed-one : {piece words words′ : List ℕ} {start : ScanState} {s s′ : Scanner} {i : ℕ} → Feeding piece start words s i → i < length piece →
+    Stands words′ s′ (scanByte (scanStateOf words s) (getD piece i 0)) → Feeding piece start words′ s′ (i + 1)
 fed-one {piece} {i = i} fed below stands =
     record { fits = stands .fits; rest = rw (stands .is, add-one) (rw (drop-cons piece i 0 below) at (fed .rest)) }
 
-pub fed-all : {piece words : List ℕ} {start : State} {s : Scanner} {i : ℕ} → Feeding piece start words s i → length piece ≤ i → Fed start piece words s
+pub fed-all : {piece words : List ℕ} {start : ScanState} {s : Scanner} {i : ℕ} → Feeding piece start words s i → length piece ≤ i → Fed start piece words s
 fed-all {piece} fed all = record { stands = record { fits = fed .fits; is = rw (drop-of-length-le piece all) at (fed .rest) } }
 
 -- ---- The end
 
-module _ {words : List ℕ} {s : Scanner} (state : State) (stands : Stands words s (scanByte state 32)) where
-  pub ended-so : {last : Scanner} {ended : Ended} → s ≡ last → wordCount ended ≡ scannedCount last → scannedWords words ended ≡ wordsRead (stateOf words last) → EndsWith words ended (finish state)
+module _ {words : List ℕ} {s : Scanner} (state : ScanState) (stands : Stands words s (scanByte state 32)) where
+  pub ended-so : {last : Scanner} {ended : Ended} → s ≡ last → wordCount ended ≡ scannedCount last → scannedWords words ended ≡ wordsRead (scanStateOf words last) → EndsWith words ended (finish state)
   ended-so e count read = record {
     inside = omega (arith, count, ap scannedCount e, stands .fits .room, stands .fits .counted);
-    is = read ∙ ap (λ s. wordsRead (stateOf words s)) (sym e) ∙ ap wordsRead (stands .is);
+    is = read ∙ ap (λ s. wordsRead (scanStateOf words s)) (sym e) ∙ ap wordsRead (stands .is);
   }

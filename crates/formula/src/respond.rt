@@ -5,7 +5,7 @@ use scan::Ended;
 use scan::Scanner;
 ghost use mathlib.Core.Path.{_≡_};
 ghost use lib.ListN.{length, replicate};
-ghost use Rattle.formula.specs.Scanning.{stateOf, Fits};
+ghost use Rattle.formula.specs.Scanning.{scanStateOf, ScanRoom};
 ghost use Rattle.formula.specs.Responding.{TwoLinesIn, Responds};
 
 fn work() -> [u32; 12304]
@@ -37,8 +37,8 @@ fn two_lines(words: &[u32], text: &mut [u8]) -> usize
 
 // The lines for an input whose scan stands there.
 pub(crate) fn respond(s: Scanner, words: &mut [u32], text: &mut [u8]) -> usize
-    requires { ⌜ Fits (now words) s × (length (now text) ≡ 1024) ⌝ }
-    ensures { λ n. ⌜ Responds (stateOf (now (words .entry)) s) (now (text .exit)) n ⌝ }
+    requires { ⌜ ScanRoom (now words) s × (length (now text) ≡ 1024) ⌝ }
+    ensures { λ n. ⌜ Responds (scanStateOf (now (words .entry)) s) (now (text .exit)) n ⌝ }
 {
     let ended = scan::end(s, words);
     let Ended::Words(count) = ended else {

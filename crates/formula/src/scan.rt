@@ -4,7 +4,7 @@ ghost use mathlib.Core.Path.{_≡_};
 ghost use lib.ListN.{length, take};
 ghost use Rattle.formula.specs.Input.{isSpace};
 ghost use Rattle.formula.specs.Scan.{withWord, scanByte, finish};
-ghost use Rattle.formula.specs.Scanning.{stateOf, Fits, Stands, Fed, digitRead, EndsWith};
+ghost use Rattle.formula.specs.Scanning.{scanStateOf, ScanRoom, Stands, Fed, digitRead, EndsWith};
 
 // Where a scan stands.
 pub(crate) enum Scanner {
@@ -68,8 +68,8 @@ fn word(count: usize, value: u32, words: &mut [u32]) -> Scanner
 
 // One more byte of the input.
 pub(crate) fn step(s: Scanner, b: u8, words: &mut [u32]) -> Scanner
-    requires { ⌜ Fits (now words) s ⌝ }
-    ensures { λ r. ⌜ Stands (now (words .exit)) r (scanByte (stateOf (now (words .entry)) s) b) ⌝ }
+    requires { ⌜ ScanRoom (now words) s ⌝ }
+    ensures { λ r. ⌜ Stands (now (words .exit)) r (scanByte (scanStateOf (now (words .entry)) s) b) ⌝ }
 {
     match s {
         Scanner::Failed => Scanner::Failed,
@@ -90,8 +90,8 @@ pub(crate) fn step(s: Scanner, b: u8, words: &mut [u32]) -> Scanner
 
 // More bytes of the input.
 pub(crate) fn feed(s: Scanner, piece: &[u8], words: &mut [u32]) -> Scanner
-    requires { ⌜ Fits (now words) s ⌝ }
-    ensures { λ r. ⌜ Fed (stateOf (now (words .entry)) s) (now (piece .entry)) (now (words .exit)) r ⌝ }
+    requires { ⌜ ScanRoom (now words) s ⌝ }
+    ensures { λ r. ⌜ Fed (scanStateOf (now (words .entry)) s) (now (piece .entry)) (now (words .exit)) r ⌝ }
 {
     let mut at = s;
     let mut i: usize = 0;
@@ -104,8 +104,8 @@ pub(crate) fn feed(s: Scanner, piece: &[u8], words: &mut [u32]) -> Scanner
 
 // The end of the input, which ends the token under way as white space does.
 pub(crate) fn end(s: Scanner, words: &mut [u32]) -> Ended
-    requires { ⌜ Fits (now words) s ⌝ }
-    ensures { λ r. ⌜ EndsWith (now (words .exit)) r (finish (stateOf (now (words .entry)) s)) ⌝ }
+    requires { ⌜ ScanRoom (now words) s ⌝ }
+    ensures { λ r. ⌜ EndsWith (now (words .exit)) r (finish (scanStateOf (now (words .entry)) s)) ⌝ }
 {
     let last = step(s, 32, words);
     match last {

@@ -1,47 +1,42 @@
--- `formula::main` is safe: what is lent is within the arrays.
-use mathlib.Core.Path.{sym}
-use lib.Seq.{length-take-le}
-use borrow.Author.Needs.{needs}
+-- `formula::main` is safe, and prints only what answers the input.
+use mathlib.Core.Path.{refl, sym}
+use native.Mathlib.Omega.{arith}
 use Rattle.formula.proofs.main.Statement.{statement}
 use Rattle.formula.proofs.main.Tie as tie
 
-slice-aggregate-read-input : tie.Need-slice-aggregate-read-input
-slice-aggregate-read-input c = search needs
+buffer-requires : tie.Need-buffer-requires
+buffer-requires c κs = tt
 
-read-input-requires : tie.Need-read-input-requires
-read-input-requires c κs = search needs
+slice-aggregate-answer : tie.Need-slice-aggregate-answer
+slice-aggregate-answer c = c .before .buffer .ensures
 
-slice-aggregate-respond : tie.Need-slice-aggregate-respond
-slice-aggregate-respond c = search needs
+slice-aggregate-answer-2 : tie.Need-slice-aggregate-answer-2
+slice-aggregate-answer-2 c = refl
 
-slice-aggregate-respond-2 : tie.Need-slice-aggregate-respond-2
-slice-aggregate-respond-2 c = search needs
+slice-aggregate-answer-3 : tie.Need-slice-aggregate-answer-3
+slice-aggregate-answer-3 c = refl
 
-respond-requires : tie.Need-respond-requires
-respond-requires c κs = search needs
+answer-requires : tie.Need-answer-requires
+answer-requires c κs = (omega (arith, c .before .before .before .buffer .ensures), refl, refl)
 
-array-share-prefix-text : tie.Need-array-share-prefix-text
-array-share-prefix-text c = search needs
+slice-aggregate-print : tie.Need-slice-aggregate-print
+slice-aggregate-print c = sym (c .before .before .before .before .answer .kept .1 .1 .0)
 
-slice-aggregate-write-all : tie.Need-slice-aggregate-write-all
-slice-aggregate-write-all c = sym (length-take-le _ _ (c .before .before .before .respond .ensures .inside))
-
-write-all-requires : tie.Need-write-all-requires
-write-all-requires c κs = search needs
+print-requires : tie.Need-print-requires
+print-requires c κs = c .before .before .before .before .answer .ensures
 
 returns : tie.Need-returns
-returns c = search needs
+returns c = tt
 
 pub main-spec : {M : Type 1} → statement M
 main-spec =
     tie.close
     (tie.spec
-    slice-aggregate-read-input
-    read-input-requires
-    slice-aggregate-respond
-    slice-aggregate-respond-2
-    respond-requires
-    array-share-prefix-text
-    slice-aggregate-write-all
-    write-all-requires
+    buffer-requires
+    slice-aggregate-answer
+    slice-aggregate-answer-2
+    slice-aggregate-answer-3
+    answer-requires
+    slice-aggregate-print
+    print-requires
     returns)

@@ -1,23 +1,24 @@
 -- `formula::lines::run_line` meets its contract.
+use mathlib.Core.Path.{refl}
 use borrow.Author.Needs.{needs}
 use Rattle.formula.specs.PrintingLaws.{ran-line}
 use Rattle.formula.proofs.lines.run_line.Statement.{statement}
 use Rattle.formula.proofs.lines.run_line.Tie as tie
 
 slice-aggregate-bytes : tie.Need-slice-aggregate-bytes
-slice-aggregate-bytes c = search needs
+slice-aggregate-bytes c = refl
 
 bytes-requires : tie.Need-bytes-requires
 bytes-requires c κs = search needs
 
 code-requires : tie.Need-code-requires
-code-requires c κs = search needs
+code-requires c κs = tt
 
 number-requires : tie.Need-number-requires
 number-requires c κs = search needs
 
 payload-requires : tie.Need-payload-requires
-payload-requires c κs = search needs
+payload-requires c κs = tt
 
 integer-requires : tie.Need-integer-requires
 integer-requires c κs = search needs
@@ -30,9 +31,6 @@ number-requires-3 c κs = search needs
 
 byte-requires : tie.Need-byte-requires
 byte-requires c κs = search needs
-
-same-length : tie.Need-same-length
-same-length c = search needs
 
 returns : tie.Need-returns
 returns c =
@@ -50,6 +48,9 @@ returns c =
     (stepped .number2 .ensures)
     (bound .number3 .ensures)
     (c .before .before .byte .ensures)
+
+same-length : tie.Need-same-length
+same-length c = returns c .put .same-length
 
 pub run-line-spec : {M : Type 1} → statement M
 run-line-spec =

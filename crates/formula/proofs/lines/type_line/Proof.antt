@@ -8,7 +8,7 @@ use Rattle.formula.proofs.lines.type_line.Statement.{statement}
 use Rattle.formula.proofs.lines.type_line.Tie as tie
 
 enum-known-inferred : tie.Need-enum-known-inferred
-enum-known-inferred c = search needs
+enum-known-inferred c = c .match .keys1
 
 cast-type-head : tie.Need-cast-type-head
 cast-type-head c =
@@ -47,9 +47,6 @@ type-head-requires-2 c κs = search needs
 byte-requires-2 : tie.Need-byte-requires-2
 byte-requires-2 c κs = search needs
 
-same-length : tie.Need-same-length
-same-length c = search needs
-
 returns : tie.Need-returns
 returns c =
     let written = c .before .before .before .before .before .before in
@@ -59,14 +56,17 @@ returns c =
     let fits = rw (matched .inferred .given .1) at (start .pre .0) in
     rw (matched .inferred .given .1) (typed-line _ (start .args .out .now) fits (headed .type-head .ensures) (written .numbers .ensures) (c .before .before .byte .ensures))
 
-same-length-2 : tie.Need-same-length-2
-same-length-2 c = search needs
+same-length : tie.Need-same-length
+same-length c = returns c .put .same-length
 
 returns-2 : tie.Need-returns-2
 returns-2 c =
     let headed = c .before .before .before .before .before .before in
     let matched = headed .before .before .before in
     rw (matched .inferred2 .given .1) (refused-line _ _ (matched .before .before .before .before .args .out .now) (headed .type-head2 .ensures) (c .before .before .byte2 .ensures))
+
+same-length-2 : tie.Need-same-length-2
+same-length-2 c = returns-2 c .put .same-length
 
 pub type-line-spec : {M : Type 1} → statement M
 type-line-spec =

@@ -6,7 +6,7 @@ use Rattle.formula.proofs.scan.end.Statement.{statement}
 use Rattle.formula.proofs.scan.end.Tie as tie
 
 step-requires : tie.Need-step-requires
-step-requires c κs = search needs
+step-requires c κs = c .before .before .pre
 
 enum-told : tie.Need-enum-told
 enum-told c = search needs
@@ -18,7 +18,7 @@ enum-known-last-2 : tie.Need-enum-known-last-2
 enum-known-last-2 c = search needs
 
 same-length : tie.Need-same-length
-same-length c = search needs
+same-length c = c .before .before .before .before .step .kept .1 .1 .0
 
 returns : tie.Need-returns
 returns c = ended-so _ (c .before .before .before .before .step .ensures) (c .enum-told .given .1) refl refl

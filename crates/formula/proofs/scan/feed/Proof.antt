@@ -3,13 +3,13 @@ use Prim.Native.Nat.{_-_}
 use mathlib.Core.Path.{sym, _∙_}
 use native.Mathlib.Omega.{arith}
 use lib.ListN.{length}
-use Rattle.formula.specs.Scanning.{stateOf}
+use Rattle.formula.specs.Scanning.{scanStateOf}
 use Rattle.formula.specs.ScanningLaws.{Feeding, fed-none, fed-one, fed-all}
 use Rattle.formula.proofs.scan.feed.Statement.{statement}
 use Rattle.formula.proofs.scan.feed.Tie as tie
 
 abbrev Inv-loop : tie.InvT-loop
-Inv-loop piece words₀ at₀ i₀ words at i = Feeding piece (stateOf words₀ at₀) words at i
+Inv-loop piece words₀ at₀ i₀ words at i = Feeding piece (scanStateOf words₀ at₀) words at i
 
 abbrev μ-loop : tie.MeasureT-loop
 μ-loop piece words₀ at₀ i₀ words at i = length piece - i

@@ -1,0 +1,72 @@
+// The input, piece by piece, until its end, or until its scan has failed: no further byte would change that.
+//
+// Whatever a read answers and leaves in the piece, the contracts say what becomes of it. No contract says that a read was made, or that
+// it gave the next bytes of the input and answers 0 only at its end: that is left to libc and to the one line that calls it.
+use crate::scan;
+use libc::STDIN_FILENO;
+use scan::Scanner;
+ghost use Prim.Native.Nat.{_≤_};
+ghost use mathlib.Core.Path.{_≡_};
+ghost use lib.ListN.{length};
+ghost use Rattle.formula.specs.Scanning.{scanStateOf, ScanRoom, Stands};
+ghost use Rattle.formula.specs.Reading.{afterRead, readsOn, PieceRead, InputRead};
+
+// What the last read answered, and where the scan stands after it.
+pub(crate) struct Turn {
+    pub(crate) got: isize,
+    pub(crate) at: Scanner,
+}
+
+// Whether there is a further read: some bytes came, and the scan has not failed.
+fn reads_on(got: isize, s: Scanner) -> bool
+    ensures { λ r. ⌜ r ≡ readsOn got s ⌝ }
+{
+    if got <= 0 {
+        return false;
+    }
+    match s {
+        Scanner::Failed => false,
+        Scanner::Between(_) => true,
+        Scanner::Inside { count: _, value: _ } => true,
+    }
+}
+
+// The scan takes in what came. A read that failed leaves the input without an end, and such an input has no words.
+fn take_in(s: Scanner, got: isize, piece: &[u8], words: &mut [u32]) -> Scanner
+    requires { ⌜ ScanRoom (now words) s ⌝ }
+    ensures { λ r. ⌜ Stands (now (words .exit)) r (afterRead (scanStateOf (now (words .entry)) s) got (now (piece .entry))) ⌝ }
+{
+    if got < 0 {
+        return Scanner::Failed;
+    }
+    let n = io::count(got, piece);
+    scan::feed(s, &piece[..n], words)
+}
+
+// Reads once. A read into a piece without bytes would answer 0 before the input's end.
+fn read_piece(s: Scanner, piece: &mut [u8], words: &mut [u32]) -> Turn
+    requires { ⌜ ScanRoom (now words) s × (1 ≤ length (now piece)) ⌝ }
+    ensures { λ t. ⌜ PieceRead (scanStateOf (now (words .entry)) s) (now (piece .exit)) (now (words .exit)) t ⌝ }
+{
+    let got = libc::read(STDIN_FILENO, piece);
+    let at = take_in(s, got, piece, words);
+    Turn { got: got, at: at }
+}
+
+// A proved loop has to end, and nothing says that the input does: it counts down from a number that no run uses up.
+pub(crate) fn read_input(piece: &mut [u8], words: &mut [u32]) -> Turn
+    requires { ⌜ (1 ≤ length (now piece)) × (length (now words) ≡ 2048) ⌝ }
+    ensures { λ t. ⌜ InputRead (now (words .exit)) t ⌝ }
+{
+    let mut turn = read_piece(Scanner::Between(0), piece, words);
+    let mut turns = u64::MAX;
+    while turns > 0 {
+        let at = turn.at;
+        if !reads_on(turn.got, at) {
+            return turn;
+        }
+        turn = read_piece(at, piece, words);
+        turns -= 1;
+    }
+    turn
+}
