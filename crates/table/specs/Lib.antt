@@ -20,9 +20,9 @@ pub mod Accepted
 pub mod ClosedFormula
 -- What the code computes.
 pub mod SearchLoop
+pub mod FieldRules
 pub mod Parents
 pub mod Placed
 pub mod Lookup
 pub mod Stages
-pub mod RuleLaws
 pub mod NodeLaws
