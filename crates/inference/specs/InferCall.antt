@@ -23,7 +23,8 @@ abbrev pub handedUp : Verdict → Inferred
 handedUp (Accepted n) = Refused 0 0
 handedUp (Turned code place) = Refused code place
 
-pub refused-answer : {words work out : List ℕ} {w : Verdict} {code place : ℕ} {r : Inferred} → w ≡ checkOf words → w ≡ Turned code place → r ≡ handedUp w → Infers words work out (leaves r work out)
+pub refused-answer : {words work out : List ℕ} {w : Verdict} {code place : ℕ} {r : Inferred} → w ≡ checkOf words → w ≡ Turned code place →
+    r ≡ handedUp w → Infers words work out (leaves r work out)
 refused-answer {work = work} {out} is e answer = turned (sym is ∙ e) (ap (λ r. leaves r work out) (answer ∙ ap handedUp e))
 
 -- ---- The words of the cells

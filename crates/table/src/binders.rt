@@ -160,7 +160,7 @@ fn lookup(words: &[u32], x: u32, k: u32) -> Bound
     Bound::Nowhere
 }
 
-// Code 4: the smallest name without a binder, from which the walk meets none.
+// Code 4: the smallest name from which the walk comes to no binder.
 pub(crate) fn names(words: &[u32], n: u32) -> Verdict
     requires { ⌜ 4 * n ≤ length (now words) ⌝ }
     ensures { λ r. ⌜ r ≡ refuseAt 4 (firstFrom (unbound (nodeAt (now (words .entry)))) n 0) (Verdict.Accepted n) ⌝ }

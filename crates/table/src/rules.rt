@@ -32,49 +32,49 @@ fn is_child(n: u32, k: u32, c: u32) -> bool
     k < c && c < n
 }
 
-// Does field a keep the rule of its kind? No field of an unknown kind does, and this one is asked first.
-fn first_fits(n: u32, k: u32, kind: u32, a: u32) -> bool
-    ensures { λ r. ⌜ r ≡ firstFits n k kind a ⌝ }
+// Does x keep the rule of field a? An unknown kind has none: it is refused at this field, which is the first.
+fn first_fits(n: u32, k: u32, kind: u32, x: u32) -> bool
+    ensures { λ r. ⌜ r ≡ firstFits n k kind x ⌝ }
 {
     match kind {
-        0 => is_unused(a),
-        1 => match a {
+        0 => is_unused(x),
+        1 => match x {
             0..=1 => true,
             _ => false,
         },
         2 => true,
-        3 => match a {
+        3 => match x {
             0..=9 => true,
             _ => false,
         },
-        4 => is_name(a),
-        5..=6 => is_child(n, k, a),
-        7..=9 => is_name(a),
+        4 => is_name(x),
+        5..=6 => is_child(n, k, x),
+        7..=9 => is_name(x),
         _ => false,
     }
 }
 
-// Does field b, of a known kind?
-fn second_fits(n: u32, k: u32, kind: u32, b: u32) -> bool
-    ensures { λ r. ⌜ r ≡ secondFits n k kind b ⌝ }
+// The rule of field b, of a known kind.
+fn second_fits(n: u32, k: u32, kind: u32, x: u32) -> bool
+    ensures { λ r. ⌜ r ≡ secondFits n k kind x ⌝ }
 {
     match kind {
-        0..=4 => is_unused(b),
-        _ => is_child(n, k, b),
+        0..=4 => is_unused(x),
+        _ => is_child(n, k, x),
     }
 }
 
-// Does field c, of a known kind?
-fn third_fits(n: u32, k: u32, kind: u32, c: u32) -> bool
-    ensures { λ r. ⌜ r ≡ thirdFits n k kind c ⌝ }
+// The rule of field c, of a known kind.
+fn third_fits(n: u32, k: u32, kind: u32, x: u32) -> bool
+    ensures { λ r. ⌜ r ≡ thirdFits n k kind x ⌝ }
 {
     match kind {
-        6 | 8 => is_child(n, k, c),
-        _ => is_unused(c),
+        6 | 8 => is_child(n, k, x),
+        _ => is_unused(x),
     }
 }
 
-// Does field f (0 for a, 1 for b, 2 for c) of node k, which holds x?
+// The rule of field f: 0 is a, 1 is b, 2 is c.
 fn field_fits(n: u32, k: u32, kind: u32, f: usize, x: u32) -> bool
     ensures { λ r. ⌜ r ≡ fieldFits n k kind f x ⌝ }
 {
@@ -94,7 +94,7 @@ fn misfits(words: &[u32], n: u32, k: u32, f: usize) -> bool
     !field_fits(n, k, words[i], f, words[i + 1 + f])
 }
 
-// Code 2: the smallest node with a field outside its rule.
+// Code 2: the smallest node with an unknown kind or a field outside its rule.
 pub(crate) fn fields(words: &[u32], n: u32) -> Verdict
     requires { ⌜ 4 * n ≤ length (now words) ⌝ }
     ensures { λ r. ⌜ r ≡ refuseAt 2 (firstFrom (λ k. not (fits (now (words .entry)) n k)) n 0) (Verdict.Accepted n) ⌝ }

@@ -59,7 +59,9 @@ returns-2 : tie.Need-returns-2 Inv-loop μ-loop Inv-nodes μ-nodes
 returns-2 c =
     let field = c .before .before .before in
     let node = field .before .before in
-    let refused = field-refused (node .before .before .args .words .now) (node .before .before .args .n) (node .nodes .k) (field .loop .inv) (c .before .before .loop-test .taken) (sym (c .before .misfits .ensures) ∙ c .if2 .taken) in
+    let call = node .before .before in
+    let found = sym (c .before .misfits .ensures) ∙ c .if2 .taken in
+    let refused = field-refused (call .args .words .now) (call .args .n) (node .nodes .k) (field .loop .inv) (c .before .before .loop-test .taken) found in
     rw (search-finds (node .nodes .inv) (field .before .if1 .left) refused) refl
 
 pub fields-spec : {M : Type 1} → statement M

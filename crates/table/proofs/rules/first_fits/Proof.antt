@@ -37,11 +37,11 @@ returns-4 c = rw (c .match .keys3) refl
 
 returns-5 : tie.Need-returns-5
 unfolding firstFits
-returns-5 c = rw (c .before .match .keys4, lt-ltb (c .before .before .args .a) 10 (omega arith)) refl
+returns-5 c = rw (c .before .match .keys4, lt-ltb (c .before .before .args .x) 10 (omega arith)) refl
 
 returns-6 : tie.Need-returns-6
 unfolding firstFits
-returns-6 c = rw (c .before .match .keys4, le-ltb (c .before .before .args .a) 10 (omega arith)) refl
+returns-6 c = rw (c .before .match .keys4, le-ltb (c .before .before .args .x) 10 (omega arith)) refl
 
 returns-7 : tie.Need-returns-7
 unfolding firstFits
