@@ -7,10 +7,11 @@ mod write;
 
 use table::Verdict;
 ghost use mathlib.Core.Path.{_≡_};
-ghost use Rattle.table.specs.Refusals.{countOf, checkOf};
+ghost use Rattle.table.specs.Refusals.{checkOf};
 ghost use Rattle.table.specs.declared.Verdict.the-variants.{Accepted};
 ghost use Rattle.inference.specs.TableCells.{TableReady, TableRoom};
 ghost use Rattle.inference.specs.Inference.{leaves, Infers, InfersWithWork};
+ghost use Rattle.inference.specs.InferCall.{handedUp};
 
 // What inference of a table answers.
 pub enum Inferred {
@@ -42,20 +43,33 @@ fn in_cells(words: &[u32], n: u32, cells: &mut [u32], out: &mut [u32]) -> Inferr
     principal(words, n, cells, out)
 }
 
-// The answer for a checked table: 5 where the work slice is too short, else its type. Five words of each of the cells are used.
-fn accepted(words: &[u32], work: &mut [u32], out: &mut [u32]) -> Inferred
-    requires { ⌜ checkOf (now words) ≡ Accepted (countOf (now words)) ⌝ }
+// The answer for a checked table of n nodes: 5 where the work slice is too short, else its type. Five words of each of the cells are used.
+fn accepted(words: &[u32], n: u32, work: &mut [u32], out: &mut [u32]) -> Inferred
+    requires { ⌜ checkOf (now words) ≡ Accepted n ⌝ }
     ensures { λ r. ⌜ Infers (now (words .entry)) (now (work .entry)) (now (out .entry)) (leaves r (now (work .exit)) (now (out .exit))) ⌝ }
 {
-    let n = words.len() / 4;
-    let size = 24 * n + 16;
+    let nodes = n as usize;
+    let size = 24 * nodes + 16;
     if work.len() < size {
         return Inferred::Refused { code: 5, place: 0 };
     }
-    let cells = 5 * (2 * n + 4);
-    let inferred = in_cells(words, n as u32, &mut work[..cells], out);
+    let cells = 5 * (2 * nodes + 4);
+    let inferred = in_cells(words, n, &mut work[..cells], out);
     lent::clear(&mut work[..size]);
     inferred
+}
+
+// The refusal of a check, handed up. An acceptance is none, and gives code 0.
+fn refused(checked: Verdict) -> Inferred
+    ensures { λ r. ⌜ r ≡ handedUp checked ⌝ }
+{
+    match checked {
+        Verdict::Accepted(_) => Inferred::Refused { code: 0, place: 0 },
+        Verdict::Refused { code, place } => Inferred::Refused {
+            code: code,
+            place: place,
+        },
+    }
 }
 
 // The inference of a table: the refusal of its check, 5, 6 or 7, or its most general type, which is then written at the beginning of
@@ -65,11 +79,8 @@ pub fn infer(words: &[u32], work: &mut [u32], out: &mut [u32]) -> Inferred
     ensures { λ r. ⌜ Infers (now (words .entry)) (now (work .entry)) (now (out .entry)) (leaves r (now (work .exit)) (now (out .exit))) ⌝ }
 {
     let checked = table::check(words);
-    let Verdict::Refused { code, place } = checked else {
-        return accepted(words, work, out);
+    let Verdict::Accepted(n) = checked else {
+        return refused(checked);
     };
-    Inferred::Refused {
-        code: code,
-        place: place,
-    }
+    accepted(words, n, work, out)
 }

@@ -24,9 +24,9 @@ pub mod ClosedFormula
 pub mod RefusedPlaces
 -- What the code computes.
 pub mod SearchLoop
+pub mod FieldRules
 pub mod Parents
 pub mod Placed
 pub mod Lookup
 pub mod Stages
-pub mod RuleLaws
 pub mod NodeLaws

@@ -2,17 +2,21 @@
 use Prim.Native.Nat.{ℕ, zero, suc, _*_, _-_, _/_, _≤_, _<_}
 use mathlib.Core.Path.{_≡_, refl, sym, _∙_, ap}
 use mathlib.Core.Bool.{Bool, true, false, not, cond, _&&_}
-use mathlib.Core.List.{[], _∷_}
+use mathlib.Core.List.{List, [], _∷_}
 use mathlib.Core.Option.{Option, none, some}
 use native.Mathlib.Omega.{arith}
 use Rattle.language.specs.Expression.{Name}
-use Rattle.table.specs.Node.{Nodes, Field}
+use Rattle.table.specs.Node.{Nodes, Field, nodeAt}
 use Rattle.table.specs.Walk.{fieldHolding, climbFrom, atParent}
 use Rattle.table.specs.Scope.{bindsIn, enter, isNamed, firstNamed}
-use Rattle.table.specs.Refusals.{isSome}
-use Rattle.table.specs.Reading.{metAs, metIn, met, foundBelow, binderAnswer, isNowhere}
+use Rattle.table.specs.Refusals.{isSome, unbound}
+use Rattle.table.specs.Reading.{wordsAt, nodeFrom, metAs, metIn, met, walkedAs, walked, foundBelow}
+use Rattle.table.specs.NodeLaws.{read-name, read-no-name}
+use Rattle.table.specs.declared.NodeWords.{NodeWords}
 use Rattle.table.specs.declared.binders.Met.{Met}
 use Rattle.table.specs.declared.binders.Met.the-variants.{Elsewhere, Above, Binding}
+use Rattle.table.specs.declared.binders.Walked.{Walked}
+use Rattle.table.specs.declared.binders.Walked.the-variants.{Binder, On}
 
 module _ (nd : Nodes) (x : Name) where
   -- What the walk from k finds, by how it meets node p.
@@ -62,39 +66,58 @@ module _ (nd : Nodes) (x : Name) where
 -- ---- The loop of the walk
 
 -- The loop goes by the numbers of words, four for each node: before word i, what is left to find is the whole answer.
-pub record Walking (nd : Nodes) (x : Name) (k current i : ℕ) : Type 0 where
+pub record Walking (words : List ℕ) (x : Name) (k current i : ℕ) : Type 0 where
   pub within : i ≤ 4 * k
   pub whole : i ≡ 4 * (i / 4)
-  pub same : foundBelow nd x current (i / 4) ≡ foundBelow nd x k k
+  pub same : foundBelow (nodeAt words) x current (i / 4) ≡ foundBelow (nodeAt words) x k k
 
-module _ {nd : Nodes} {x : Name} {k : ℕ} where
-  pub walk-starts : Walking nd x k k (4 * k)
-  walk-starts = record { within = omega arith; whole = omega arith; same = ap (foundBelow nd x k) (omega arith) }
+module _ {words : List ℕ} {x : Name} {k : ℕ} where
+  pub walk-starts : Walking words x k k (4 * k)
+  walk-starts = record { within = omega arith; whole = omega arith; same = ap (foundBelow (nodeAt words) x k) (omega arith) }
 
-  module _ {current i : ℕ} (w : Walking nd x k current i) where
-    down : 0 < i → (m : Met) → met (nd ((i - 4) / 4)) x current ≡ m → onwards nd x m current ((i - 4) / 4) ≡ foundBelow nd x k k
-    down h m e =
-        let next : (i - 4) / 4 ≡ i / 4 - 1 = omega arith in
-        let some-left : 0 < i / 4 = omega (arith, w .whole) in
-        rw next (sym (found-down nd x current (i / 4) some-left m (rw next at e)) ∙ w .same)
-
-    pub walk-passes : 0 < i → met (nd ((i - 4) / 4)) x current ≡ Elsewhere → Walking nd x k current (i - 4)
-    walk-passes h e = record { within = omega (arith, w .within); whole = omega (arith, w .whole); same = down h Elsewhere e }
-
-    pub walk-climbs : 0 < i → met (nd ((i - 4) / 4)) x current ≡ Above → Walking nd x k ((i - 4) / 4) (i - 4)
-    walk-climbs h e = record { within = omega (arith, w .within); whole = omega (arith, w .whole); same = down h Above e }
-
-    pub walk-finds : 0 < i → met (nd ((i - 4) / 4)) x current ≡ Binding → foundBelow nd x k k ≡ some ((i - 4) / 4)
-    walk-finds h e = sym (down h Binding e)
-
-    pub walk-ends : i ≤ 0 → foundBelow nd x k k ≡ none
+  module _ {current i : ℕ} (w : Walking words x k current i) where
+    pub walk-ends : i ≤ 0 → foundBelow (nodeAt words) x k k ≡ none
     walk-ends h =
         let none-left : i / 4 ≡ 0 = omega arith in
-        sym (w .same) ∙ ap (foundBelow nd x current) none-left ∙ found-nothing nd x current
+        sym (w .same) ∙ ap (foundBelow (nodeAt words) x current) none-left ∙ found-nothing (nodeAt words) x current
 
--- ---- No binder
+    -- One node further down.
+    module _ (left : 0 < i) where
+      as-node : nodeFrom words (i - 4) ≡ nodeAt words (i / 4 - 1)
+      unfolding nodeAt
+      as-node =
+          let is : i - 4 ≡ 4 * (i / 4 - 1) = omega (arith, w .whole) in
+          ap (nodeFrom words) is
 
--- A name that is bound nowhere has no binder.
-pub nowhere-is-none : (o : Option ℕ) → isNowhere (binderAnswer o) ≡ not (isSome o)
-nowhere-is-none none = refl
-nowhere-is-none (some b) = refl
+      down : (m : Met) → met (nodeFrom words (i - 4)) x current ≡ m → onwards (nodeAt words) x m current ((i - 4) / 4) ≡ foundBelow (nodeAt words) x k k
+      down m e =
+          let next : (i - 4) / 4 ≡ i / 4 - 1 = omega arith in
+          let some-left : 0 < i / 4 = omega (arith, w .whole) in
+          rw next (sym (found-down (nodeAt words) x current (i / 4) some-left m (rw as-node at e)) ∙ w .same)
+
+      pub walk-goes-on : {r : Walked} {next : ℕ} → r ≡ walked (nodeFrom words (i - 4)) x current ((i - 4) / 4) → r ≡ On next → Walking words x k next (i - 4)
+      walk-goes-on {r} {next} is e =
+          record { within = omega (arith, w .within); whole = omega (arith, w .whole); same = go (met (nodeFrom words (i - 4)) x current) refl (sym is ∙ e) }
+        where
+          go : (m : Met) → met (nodeFrom words (i - 4)) x current ≡ m → walkedAs m current ((i - 4) / 4) ≡ On next →
+              foundBelow (nodeAt words) x next ((i - 4) / 4) ≡ foundBelow (nodeAt words) x k k
+          go Elsewhere is e = let same : next ≡ current = cc in rw same (down Elsewhere is)
+          go Above is e = let same : next ≡ (i - 4) / 4 = cc in ap (λ j. foundBelow (nodeAt words) x j ((i - 4) / 4)) same ∙ down Above is
+          go Binding is e = absurd (let z : _≡_ {A = ℕ} 0 1 = cc in omega arith)
+
+      pub walk-finds : {r : Walked} → r ≡ walked (nodeFrom words (i - 4)) x current ((i - 4) / 4) → r ≡ Binder → foundBelow (nodeAt words) x k k ≡ some ((i - 4) / 4)
+      walk-finds is e = go (met (nodeFrom words (i - 4)) x current) refl (sym is ∙ e)
+        where
+          go : (m : Met) → met (nodeFrom words (i - 4)) x current ≡ m → walkedAs m current ((i - 4) / 4) ≡ Binder → foundBelow (nodeAt words) x k k ≡ some ((i - 4) / 4)
+          go Elsewhere is e = absurd (let z : _≡_ {A = ℕ} 0 1 = cc in omega arith)
+          go Above is e = absurd (let z : _≡_ {A = ℕ} 0 1 = cc in omega arith)
+          go Binding is e = sym (down Binding is)
+
+-- ---- Code 4, by what the walk finds
+
+module _ (words : List ℕ) (k : ℕ) {w : NodeWords} (read : w ≡ wordsAt words k) where
+  pub no-name-unbound : (w .kind ≡ 4 → ⊥) → unbound (nodeAt words) k ≡ false
+  no-name-unbound h = rw (read-no-name words k (rw read at h)) refl
+
+  pub name-unbound : {found : Option ℕ} → w .kind ≡ 4 → foundBelow (nodeAt words) (w .a) k k ≡ found → unbound (nodeAt words) k ≡ not (isSome found)
+  name-unbound h e = rw (read-name words k (rw read at h)) (ap (λ o. not (isSome o)) (rw read at e))

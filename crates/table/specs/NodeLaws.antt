@@ -1,5 +1,5 @@
 -- A node read from its words, kind by kind, where the code treats several kinds alike.
-use Prim.Native.Nat.{ℕ, zero, suc, _+_, _*_, _/_, _<_}
+use Prim.Native.Nat.{ℕ, zero, suc, _+_, _*_, _<_}
 use mathlib.Core.Path.{_≡_, refl, sym, _∙_, ap}
 use mathlib.Core.Logic.{_⊎_, inl, inr, ⊎-elim}
 use mathlib.Core.Bool.{Bool, true, false, cond}
@@ -147,11 +147,6 @@ module _ {words : List ℕ} {i k : ℕ} where
 
   pub others-passed : eqb (wordAt words (i + 1)) k ≡ false → (wordAt words (i + 2) ≡ k → ⊥) → (wordAt words (i + 3) ≡ k → ⊥) → Passed words i k
   others-passed da db dc = record { elsewhere = fields-differ (wordAt words i) _ _ _ k da (ne-eqb _ _ db) (ne-eqb _ _ dc) }
-
--- The walk goes by the numbers of words, four for each node.
-pub met-from : (words : List ℕ) (i x k : ℕ) {m : Met} → i ≡ 4 * (i / 4) → met (nodeFrom words i) x k ≡ m → met (nodeAt words (i / 4)) x k ≡ m
-unfolding nodeAt
-met-from words i x k whole e = rw (sym whole) e
 
 -- ---- Names
 

@@ -67,9 +67,12 @@ module _ (nd : Nodes) (k : ℕ) where
 -- Both counts find the same node.
 pub misplaced-as-below : (words : List ℕ) (n : ℕ) → ((k : ℕ) → k < n → fits words n k ≡ true) → firstFrom (misplaced (nodeAt words) n) n 0 ≡ firstFrom (misplacedBelow (nodeAt words)) n 0
 misplaced-as-below words n fitting =
-    first-same n 0 λ k low high. ap (λ times. not (eqb k 0) && not (eqb times 1)) (nothing-above (nodeAt words) k n (omega arith) λ p at-least below. no-times (nodeAt words) k p λ f e. above k p at-least below f e)
+    first-same n 0 λ k low high. ap (λ times. not (eqb k 0) && not (eqb times 1)) (all-below k (omega arith))
   where
     above : (k p : ℕ) → k ≤ p → p < n → (f : Field) → child (nodeAt words p) f ≡ some k → ⊥
     above k p at-least below f e =
         let low = kids-of-fitting-in-range n p words (fitting p below) (record { stands = e }) .0 in
         omega arith
+
+    all-below : (k : ℕ) → k ≤ n → timesBelow (nodeAt words) n k ≡ timesBelow (nodeAt words) k k
+    all-below k h = nothing-above (nodeAt words) k n h λ p at-least below. no-times (nodeAt words) k p (above k p at-least below)

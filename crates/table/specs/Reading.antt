@@ -12,6 +12,8 @@ use Rattle.table.specs.Refusals.{countOf, once, timesBelow, isSome}
 use Rattle.table.specs.declared.NodeWords.{NodeWords}
 use Rattle.table.specs.declared.binders.Met.{Met}
 use Rattle.table.specs.declared.binders.Met.the-variants.{Elsewhere, Above, Binding}
+use Rattle.table.specs.declared.binders.Walked.{Walked}
+use Rattle.table.specs.declared.binders.Walked.the-variants.{Binder, On}
 use Rattle.table.specs.declared.Bound.{Bound}
 use Rattle.table.specs.declared.Bound.the-variants.{At, Nowhere}
 
@@ -53,6 +55,15 @@ metIn (some f) x node = metAs (bindsIn node f && isNamed x node)
 abbrev pub met : Node → Name → ℕ → Met
 met node x current = metIn (fieldHolding current node) x node
 
+-- What the walk comes to at node p: it goes on from the current node, or from p where p is its parent.
+abbrev pub walkedAs : Met → ℕ → ℕ → Walked
+walkedAs Elsewhere current p = On current
+walkedAs Above current p = On p
+walkedAs Binding current p = Binder
+
+abbrev pub walked : Node → Name → ℕ → ℕ → Walked
+walked node x current p = walkedAs (met node x current) current p
+
 -- The same where the child and the name have been compared.
 abbrev pub bindingIf : Bool → Bool → Met
 bindingIf true named = metAs named
@@ -75,10 +86,6 @@ foundBelow nd x current p = firstNamed nd x (climbFrom [] (enter nd) nd current 
 abbrev pub binderAnswer : Option ℕ → Bound
 binderAnswer none = Nowhere
 binderAnswer (some b) = At b
-
-abbrev pub isNowhere : Bound → Bool
-isNowhere (At b) = false
-isNowhere Nowhere = true
 
 -- The binder of node k of a table. A node that is no name or is not there has none.
 abbrev pub binderIn : List ℕ → ℕ → Bound

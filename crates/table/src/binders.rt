@@ -2,7 +2,7 @@
 use crate::Bound;
 use crate::Verdict;
 use crate::nodes::node_at;
-ghost use Prim.Native.Nat.{_+_, _*_, _≤_};
+ghost use Prim.Native.Nat.{_+_, _*_, _/_, _≤_, _<_};
 ghost use mathlib.Core.Path.{_≡_};
 ghost use mathlib.Core.Bool.{false};
 ghost use lib.Dec.{eqb};
@@ -10,7 +10,7 @@ ghost use lib.ListN.{length};
 ghost use Rattle.table.specs.Node.{wordAt, nodeAt};
 ghost use Rattle.table.specs.Scope.{scope, firstNamed};
 ghost use Rattle.table.specs.Refusals.{unbound, firstFrom, refuseAt};
-ghost use Rattle.table.specs.Reading.{nodeFrom, metAs, aboveIf, bindingIf, letMet, met, binderAnswer, isNowhere, binderIn};
+ghost use Rattle.table.specs.Reading.{nodeFrom, metAs, aboveIf, bindingIf, letMet, met, binderAnswer, binderIn, walked};
 ghost use Rattle.table.specs.NodeLaws.{Passed};
 
 // A node that the walk in search of a binder meets.
@@ -116,68 +116,82 @@ fn mentions(words: &[u32], i: usize, k: u32) -> bool
     words[i + 1] == k
 }
 
+// What the walk comes to at a node.
+enum Walked {
+    // The binder of the name.
+    Binder,
+    // It goes on in search of the parent of that node.
+    On(u32),
+}
+
+// One step of the walk in search of the binder of x: the node at word i.
+fn walk_at(words: &[u32], i: usize, x: u32, current: u32) -> Walked
+    requires { ⌜ (i + 4 ≤ length (now words)) × (i / 4 < 4294967296) ⌝ }
+    ensures { λ r. ⌜ r ≡ walked (nodeFrom (now (words .entry)) i) x current (i / 4) ⌝ }
+{
+    if !mentions(words, i, current) {
+        return Walked::On(current);
+    }
+    let met = meet_at(words, i, x, current);
+    let p = (i / 4) as u32;
+    match met {
+        Met::Binding => Walked::Binder,
+        Met::Above => Walked::On(p),
+        Met::Elsewhere => Walked::On(current),
+    }
+}
+
 // The binder of the name x at node k.
 fn lookup(words: &[u32], x: u32, k: u32) -> Bound
     requires { ⌜ 4 * k ≤ length (now words) ⌝ }
     ensures { λ r. ⌜ r ≡ binderAnswer (firstNamed (nodeAt (now (words .entry))) x (scope (nodeAt (now (words .entry))) k)) ⌝ }
 {
     let mut current = k;
-    let mut at = 4 * (k as usize);
-    while 0 < at {
-        at -= 4;
-        if mentions(words, at, current) {
-            let p = (at / 4) as u32;
-            let met = meet_at(words, at, x, current);
-            match met {
-                Met::Binding => {
-                    return Bound::At(p);
-                }
-                Met::Above => {
-                    current = p;
-                }
-                Met::Elsewhere => {}
-            }
-        }
+    let mut i = 4 * (k as usize);
+    while 0 < i {
+        i -= 4;
+        let walked = walk_at(words, i, x, current);
+        let Walked::On(next) = walked else {
+            let p = (i / 4) as u32;
+            return Bound::At(p);
+        };
+        current = next;
     }
     Bound::Nowhere
 }
 
-fn is_nowhere(b: Bound) -> bool
-    ensures { λ r. ⌜ r ≡ isNowhere b ⌝ }
-{
-    match b {
-        Bound::At(_) => false,
-        Bound::Nowhere => true,
-    }
-}
-
-// Is node k a name without a binder?
-fn is_unbound(words: &[u32], k: u32) -> bool
-    requires { ⌜ 4 * k + 4 ≤ length (now words) ⌝ }
-    ensures { λ r. ⌜ r ≡ unbound (nodeAt (now (words .entry))) k ⌝ }
-{
-    let w = node_at(words, k);
-    let kind = w.kind;
-    if kind == 4 {
-        is_nowhere(lookup(words, w.a, k))
-    } else {
-        false
-    }
-}
-
-// Code 4: the smallest name without a binder.
+// Code 4: the smallest name from which the walk comes to no binder.
 pub(crate) fn names(words: &[u32], n: u32) -> Verdict
     requires { ⌜ 4 * n ≤ length (now words) ⌝ }
     ensures { λ r. ⌜ r ≡ refuseAt 4 (firstFrom (unbound (nodeAt (now (words .entry)))) n 0) (Verdict.Accepted n) ⌝ }
 {
     let mut k: u32 = 0;
-    while k < n {
-        if is_unbound(words, k) {
-            return Verdict::Refused { code: 4, place: k };
+    'nodes: loop {
+        if n <= k {
+            break 'nodes Verdict::Accepted(n);
+        }
+        let w = node_at(words, k);
+        let kind = w.kind;
+        if kind != 4 {
+            k += 1;
+            continue 'nodes;
+        }
+        let x = w.a;
+        let mut current = k;
+        let mut i = 4 * (k as usize);
+        loop {
+            if i == 0 {
+                break 'nodes Verdict::Refused { code: 4, place: k };
+            }
+            i -= 4;
+            let walked = walk_at(words, i, x, current);
+            let Walked::On(next) = walked else {
+                break;
+            };
+            current = next;
         }
         k += 1;
     }
-    Verdict::Accepted(n)
 }
 
 // The binder of the name at node k.

@@ -1,8 +1,7 @@
 -- `inference::accepted` meets its contract: the words of the cells are lent first, then all that are to be zero.
 use mathlib.Core.Path.{refl, sym}
-use native.Mathlib.Omega.{arith}
 use Rattle.inference.specs.Inference.{work-short}
-use Rattle.inference.specs.InferCall.{few-nodes, cells-within, cells-lent, room-for-cells, work-lent, answered}
+use Rattle.inference.specs.InferCall.{cells-within, cells-lent, room-for-cells, work-lent, answered}
 use borrow.Author.Needs.{needs}
 use Rattle.inference.proofs.accepted.Statement.{statement}
 use Rattle.inference.proofs.accepted.Tie as tie
@@ -25,23 +24,30 @@ add-cells c = search needs
 mul-cells-2 : tie.Need-mul-cells-2
 mul-cells-2 c = search needs
 
-cast-in-cells : tie.Need-cast-in-cells
-cast-in-cells c = omega (arith, few-nodes (c .before .before .before .before .args .words .now) (c .before .before .before .before .pre))
-
 slice-relend-prefix-in-cells : tie.Need-slice-relend-prefix-in-cells
-slice-relend-prefix-in-cells c = cells-within (c .before .before .before .before .args .words .now) (c .before .before .before .before .pre) (c .before .before .before .before .args .work .now) (c .if1 .left)
+slice-relend-prefix-in-cells c =
+    let call = c .before .before .before .before in
+    cells-within (call .args .words .now) (call .args .n) (call .pre) (call .args .work .now) (c .if1 .left)
 
 slice-aggregate-in-cells : tie.Need-slice-aggregate-in-cells
-slice-aggregate-in-cells c = sym (cells-lent (c .before .before .before .before .before .args .words .now) (c .before .before .before .before .before .pre) (c .before .before .before .before .before .args .work .now) (c .before .if1 .left))
+slice-aggregate-in-cells c =
+    let call = c .before .before .before .before .before in
+    sym (cells-lent (call .args .words .now) (call .args .n) (call .pre) (call .args .work .now) (c .before .if1 .left))
 
 in-cells-requires : tie.Need-in-cells-requires
-in-cells-requires c κs = (room-for-cells (c .before .before .before .before .before .before .args .words .now) (c .before .before .before .before .before .before .pre) (c .before .before .before .before .before .before .args .work .now) (c .before .before .if1 .left), c .before .before .before .before .before .before .pre)
+in-cells-requires c κs =
+    let call = c .before .before .before .before .before .before in
+    (room-for-cells (call .args .words .now) (call .args .n) (call .pre) (call .args .work .now) (c .before .before .if1 .left), call .pre)
 
 slice-relend-prefix-clear : tie.Need-slice-relend-prefix-clear
 slice-relend-prefix-clear c = search needs
 
 slice-aggregate-clear : tie.Need-slice-aggregate-clear
-slice-aggregate-clear c = sym (work-lent (c .before .before .before .before .before .before .before .before .before .before .before .before .args .words .now) (c .before .before .before .before .before .before .before .before .before .before .before .before .pre) (c .before .before .before .before .before .before .before .before .before .before .before .before .args .work .now) (c .before .before .before .before .before .before .before .before .if1 .left) (c .before .before .before .before .before .in-cells .last .1 .1 .0) (c .before .before .before .before .before .in-cells .kept .1 .1 .0))
+slice-aggregate-clear c =
+    let lent = c .before .before .before .before .before in
+    let tested = lent .before .before .before in
+    let call = tested .before .before .before .before in
+    sym (work-lent (call .args .words .now) (call .args .n) (call .pre) (call .args .work .now) (tested .if1 .left) (lent .in-cells .last .1 .1 .0) (lent .in-cells .kept .1 .1 .0))
 
 clear-requires : tie.Need-clear-requires
 clear-requires c κs = search needs
@@ -53,7 +59,15 @@ same-length-2 : tie.Need-same-length-2
 same-length-2 c = search needs
 
 returns-2 : tie.Need-returns-2
-returns-2 c = answered (c .before .before .before .before .before .before .before .before .before .before .before .before .before .before .before .args .words .now) (c .before .before .before .before .before .before .before .before .before .before .before .before .before .before .before .pre) (c .before .before .before .before .before .before .before .before .before .before .before .before .before .before .before .args .work .now) (c .before .before .before .before .before .before .before .before .before .before .before .if1 .left) (c .before .before .before .before .before .before .before .before .in-cells .last .1 .1 .0) (c .before .before .before .before .before .before .before .before .in-cells .kept .1 .1 .0) (c .before .before .before .before .before .before .before .before .in-cells .ensures) (c .before .before .clear .ensures)
+returns-2 c =
+    let cleared = c .before .before in
+    let lent = cleared .before .before .before .before .before .before in
+    let tested = lent .before .before .before in
+    let call = tested .before .before .before .before in
+    answered (call .args .words .now) (call .args .n) (call .pre) (call .args .work .now) (tested .if1 .left) (lent .in-cells .last .1 .1 .0)
+    (lent .in-cells .kept .1 .1 .0)
+    (lent .in-cells .ensures)
+    (cleared .clear .ensures)
 
 pub accepted-spec : {M : Type 1} → statement M
 accepted-spec =
@@ -65,7 +79,6 @@ accepted-spec =
     mul-cells
     add-cells
     mul-cells-2
-    cast-in-cells
     slice-relend-prefix-in-cells
     slice-aggregate-in-cells
     in-cells-requires

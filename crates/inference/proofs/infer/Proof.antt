@@ -1,5 +1,6 @@
--- `inference::infer` meets its contract.
-use Rattle.inference.specs.InferCall.{accepted-count, refused-answer}
+-- `inference::infer` meets its contract, by the verdict of the check.
+use mathlib.Core.Path.{sym, _∙_}
+use Rattle.inference.specs.InferCall.{refused-answer}
 use borrow.Author.Needs.{needs}
 use Rattle.inference.proofs.infer.Statement.{statement}
 use Rattle.inference.proofs.infer.Tie as tie
@@ -13,8 +14,16 @@ enum-known-checked c = search needs
 enum-told : tie.Need-enum-told
 enum-told c = search needs
 
+refused-requires : tie.Need-refused-requires
+refused-requires c κs = search needs
+
+returns : tie.Need-returns
+returns c = refused-answer (c .before .before .before .check .ensures) (c .before .enum-told .given .1) (c .refused .ensures)
+
 accepted-requires : tie.Need-accepted-requires
-accepted-requires c κs = accepted-count (c .before .before .before .before .before .before .before .before .args .words .now) (c .before .before .before .before .check .ensures) (c .before .before .enum-told .given .1)
+accepted-requires c κs =
+    let told = c .before .before .before in
+    sym (told .before .before .check .ensures) ∙ told .checked .given .1
 
 same-length : tie.Need-same-length
 same-length c = search needs
@@ -22,11 +31,8 @@ same-length c = search needs
 same-length-2 : tie.Need-same-length-2
 same-length-2 c = search needs
 
-returns : tie.Need-returns
-returns c = search needs
-
 returns-2 : tie.Need-returns-2
-returns-2 c = refused-answer (c .before .before .before .check .ensures) (c .before .checked .given .1)
+returns-2 c = c .before .before .before .before .accepted .ensures
 
 pub infer-spec : {M : Type 1} → statement M
 infer-spec =
@@ -35,8 +41,9 @@ infer-spec =
     check-requires
     enum-known-checked
     enum-told
+    refused-requires
+    returns
     accepted-requires
     same-length
     same-length-2
-    returns
     returns-2)

@@ -19,9 +19,9 @@ returns c = count-halts (c .before .before .before .before .args .words .now) (c
 
 fields-requires : tie.Need-fields-requires
 fields-requires c κs =
-    let words = c .before .before .before .before .before .args .words .now in
-    let n = c .before .counted .given .0 .0 in
-    counted-nodes words n (c .before .before .before .count .ensures) (c .before .counted .given .1) .0
+    let told = c .before in
+    let counted = told .before .before in
+    counted-nodes (counted .before .before .args .words .now) (told .counted .given .0 .0) (counted .count .ensures) (told .counted .given .1) .0
 
 enum-told-2 : tie.Need-enum-told-2
 enum-told-2 c = search needs
@@ -31,15 +31,18 @@ enum-told-3 c = search needs
 
 returns-2 : tie.Need-returns-2
 returns-2 c =
-    let words = c .before .before .before .before .before .before .before .before .args .words .now in
-    let n = c .before .before .before .before .counted .given .0 .0 in
-    fields-halt words n (after-count words n (c .before .before .before .before .before .before .count .ensures) (c .before .before .before .before .counted .given .1)) (c .before .before .fields .ensures) (c .enum-told3 .given .1)
+    let fielded = c .before .before in
+    let told = fielded .before .before in
+    let counted = told .before .before in
+    let words = counted .before .before .args .words .now in
+    let n = told .counted .given .0 .0 in
+    fields-halt words n (after-count words n (counted .count .ensures) (told .counted .given .1)) (fielded .fields .ensures) (c .enum-told3 .given .1)
 
 rooted-requires : tie.Need-rooted-requires
 rooted-requires c κs =
-    let words = c .before .before .before .before .before .before .before .before .args .words .now in
-    let n = c .before .before .before .before .counted .given .0 .0 in
-    counted-nodes words n (c .before .before .before .before .before .before .count .ensures) (c .before .before .before .before .counted .given .1)
+    let told = c .before .before .before .before in
+    let counted = told .before .before in
+    counted-nodes (counted .before .before .args .words .now) (told .counted .given .0 .0) (counted .count .ensures) (told .counted .given .1)
 
 enum-told-4 : tie.Need-enum-told-4
 enum-told-4 c = search needs
@@ -49,23 +52,36 @@ enum-told-5 c = search needs
 
 returns-3 : tie.Need-returns-3
 returns-3 c =
-    let words = c .before .before .before .before .before .before .before .before .before .before .before .args .words .now in
-    let n = c .before .before .before .before .before .before .before .counted .given .0 .0 in
-    let fitted = after-fields words n (after-count words n (c .before .before .before .before .before .before .before .before .before .count .ensures) (c .before .before .before .before .before .before .before .counted .given .1)) (c .before .before .before .before .before .fields .ensures) (c .before .before .before .enum-told2 .given .1) in
-    parents-halt words n fitted (c .before .before .rooted .ensures) (c .enum-told5 .given .1)
+    let placed = c .before .before in
+    let fitting = placed .before in
+    let fielded = fitting .before .before in
+    let told = fielded .before .before in
+    let counted = told .before .before in
+    let words = counted .before .before .args .words .now in
+    let n = told .counted .given .0 .0 in
+    let counted-first = after-count words n (counted .count .ensures) (told .counted .given .1) in
+    let fitted-first = after-fields words n counted-first (fielded .fields .ensures) (fitting .enum-told2 .given .1) in
+    parents-halt words n fitted-first (placed .rooted .ensures) (c .enum-told5 .given .1)
 
 names-requires : tie.Need-names-requires
 names-requires c κs =
-    let words = c .before .before .before .before .before .before .before .before .before .before .before .args .words .now in
-    let n = c .before .before .before .before .before .before .before .counted .given .0 .0 in
-    counted-nodes words n (c .before .before .before .before .before .before .before .before .before .count .ensures) (c .before .before .before .before .before .before .before .counted .given .1) .0
+    let fielded = c .before .before .before .before .before in
+    let told = fielded .before .before in
+    let counted = told .before .before in
+    counted-nodes (counted .before .before .args .words .now) (told .counted .given .0 .0) (counted .count .ensures) (told .counted .given .1) .0
 
 returns-4 : tie.Need-returns-4
 returns-4 c =
-    let words = c .before .before .before .before .before .before .before .before .before .before .before .before .args .words .now in
-    let n = c .before .before .before .before .before .before .before .before .counted .given .0 .0 in
-    let fitted = after-fields words n (after-count words n (c .before .before .before .before .before .before .before .before .before .before .count .ensures) (c .before .before .before .before .before .before .before .before .counted .given .1)) (c .before .before .before .before .before .before .fields .ensures) (c .before .before .before .before .enum-told2 .given .1) in
-    c .names .ensures ∙ sym (after-parents words n fitted (c .before .before .before .rooted .ensures) (c .before .enum-told4 .given .1))
+    let placed = c .before .before .before in
+    let fitting = placed .before in
+    let fielded = fitting .before .before in
+    let told = fielded .before .before in
+    let counted = told .before .before in
+    let words = counted .before .before .args .words .now in
+    let n = told .counted .given .0 .0 in
+    let counted-first = after-count words n (counted .count .ensures) (told .counted .given .1) in
+    let fitted-first = after-fields words n counted-first (fielded .fields .ensures) (fitting .enum-told2 .given .1) in
+    c .names .ensures ∙ sym (after-parents words n fitted-first (placed .rooted .ensures) (c .before .enum-told4 .given .1))
 
 pub check-spec : {M : Type 1} → statement M
 check-spec =

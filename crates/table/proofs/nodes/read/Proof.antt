@@ -37,7 +37,13 @@ word-or-zero-requires-4 : tie.Need-word-or-zero-requires-4
 word-or-zero-requires-4 c κs = search needs
 
 returns-2 : tie.Need-returns-2
-returns-2 c = λ t. record { kind = c .before .before .before .word-or-zero .ensures t; a = c .before .before .word-or-zero2 .ensures t; b = c .before .word-or-zero3 .ensures t; c = c .word-or-zero4 .ensures t }
+returns-2 c =
+    λ t. record {
+      kind = c .before .before .before .word-or-zero .ensures t;
+      a = c .before .before .word-or-zero2 .ensures t;
+      b = c .before .word-or-zero3 .ensures t;
+      c = c .word-or-zero4 .ensures t;
+    }
 
 pub read-spec : {M : Type 1} → statement M
 read-spec =

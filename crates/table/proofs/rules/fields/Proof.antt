@@ -1,39 +1,68 @@
--- `table::rules::fields` meets its contract. The loop's invariant: what is left to search is the whole answer.
+-- `table::rules::fields` meets its contract. Invariants of both loops: what is left to search is the whole answer, outside among the nodes
+-- and inside among the three fields of a node.
 use Prim.Native.Nat.{_-_}
 use mathlib.Core.Bool.{not}
 use mathlib.Core.Path.{refl, sym, _∙_}
 use native.Mathlib.Omega.{arith}
 use Rattle.table.specs.SearchLoop.{Searching, search-starts, search-goes-on, search-finds, search-ends}
+use Rattle.table.specs.FieldRules.{misfits, fields-passed, field-refused}
 use Rattle.table.specs.Refusals.{fits}
 use Rattle.table.proofs.rules.fields.Statement.{statement}
 use Rattle.table.proofs.rules.fields.Tie as tie
 
 abbrev Inv-loop : tie.InvT-loop
-Inv-loop words n k₀ k = Searching (λ i. not (fits words n i)) n k
+Inv-loop words n k f₀ f = Searching (misfits words n k) 3 f
 
 abbrev μ-loop : tie.MeasureT-loop
-μ-loop words n k₀ k = n - k
+μ-loop words n k f₀ f = 3 - f
 
-loop-holds : tie.Need-loop-holds Inv-loop μ-loop
+abbrev Inv-nodes : tie.InvT-nodes
+Inv-nodes words n k₀ k = Searching (λ i. not (fits words n i)) n k
+
+abbrev μ-nodes : tie.MeasureT-nodes
+μ-nodes words n k₀ k = n - k
+
+nodes-holds : tie.Need-nodes-holds Inv-loop μ-loop Inv-nodes μ-nodes
+nodes-holds c = search-starts
+
+loop-holds : tie.Need-loop-holds Inv-loop μ-loop Inv-nodes μ-nodes
 loop-holds c = search-starts
 
-breaks-rule-requires : tie.Need-breaks-rule-requires Inv-loop μ-loop
-breaks-rule-requires c κs = omega arith
+misfits-requires : tie.Need-misfits-requires Inv-loop μ-loop Inv-nodes μ-nodes
+misfits-requires c κs = (omega arith, omega arith)
 
-returns : tie.Need-returns Inv-loop μ-loop
-returns c = rw (search-finds (c .before .before .before .loop .inv) (c .before .before .loop-test .taken) (sym (c .before .breaks-rule .ensures) ∙ c .if1 .taken)) refl
+add-f : tie.Need-add-f Inv-loop μ-loop Inv-nodes μ-nodes
+add-f c = omega arith
 
-add-k : tie.Need-add-k Inv-loop μ-loop
-add-k c = omega arith
-
-loop-less : tie.Need-loop-less Inv-loop μ-loop
+loop-less : tie.Need-loop-less Inv-loop μ-loop Inv-nodes μ-nodes
 loop-less c = omega arith
 
-loop-again : tie.Need-loop-again Inv-loop μ-loop
-loop-again c = search-goes-on (c .before .before .before .loop .inv) (c .before .before .loop-test .taken) (sym (c .before .breaks-rule .ensures) ∙ c .if1 .left)
+loop-again : tie.Need-loop-again Inv-loop μ-loop Inv-nodes μ-nodes
+loop-again c = search-goes-on (c .before .before .before .loop .inv) (c .before .before .loop-test .taken) (sym (c .before .misfits .ensures) ∙ c .if2 .left)
 
-returns-2 : tie.Need-returns-2 Inv-loop μ-loop
-returns-2 c = rw (search-ends (c .before .loop .inv) (c .loop-test .left)) refl
+add-k : tie.Need-add-k Inv-loop μ-loop Inv-nodes μ-nodes
+add-k c = omega arith
+
+nodes-less : tie.Need-nodes-less Inv-loop μ-loop Inv-nodes μ-nodes
+nodes-less c = omega arith
+
+nodes-again : tie.Need-nodes-again Inv-loop μ-loop Inv-nodes μ-nodes
+nodes-again c =
+    let node = c .before .before .before in
+    let passed = fields-passed (node .before .before .args .words .now) (node .before .before .args .n) (node .nodes .k) (c .before .loop .inv) (c .loop-test .left) in
+    search-goes-on (node .nodes .inv) (c .before .before .if1 .left) passed
+
+returns : tie.Need-returns Inv-loop μ-loop Inv-nodes μ-nodes
+returns c = rw (search-ends (c .before .nodes .inv) (c .if1 .taken)) refl
+
+returns-2 : tie.Need-returns-2 Inv-loop μ-loop Inv-nodes μ-nodes
+returns-2 c =
+    let field = c .before .before .before in
+    let node = field .before .before in
+    let call = node .before .before in
+    let found = sym (c .before .misfits .ensures) ∙ c .if2 .taken in
+    let refused = field-refused (call .args .words .now) (call .args .n) (node .nodes .k) (field .loop .inv) (c .before .before .loop-test .taken) found in
+    rw (search-finds (node .nodes .inv) (field .before .if1 .left) refused) refl
 
 pub fields-spec : {M : Type 1} → statement M
 fields-spec =
@@ -41,10 +70,16 @@ fields-spec =
     (tie.spec
     Inv-loop
     μ-loop
+    Inv-nodes
+    μ-nodes
+    nodes-holds
     loop-holds
-    breaks-rule-requires
-    returns
-    add-k
+    misfits-requires
+    add-f
     loop-less
     loop-again
+    add-k
+    nodes-less
+    nodes-again
+    returns
     returns-2)

@@ -22,7 +22,9 @@ times-at-requires : tie.Need-times-at-requires Inv-loop μ-loop
 times-at-requires c κs = omega arith
 
 returns : tie.Need-returns Inv-loop μ-loop
-returns c = λ e. parent-found (nodeAt (c .before .before .before .before .before .args .words .now)) (c .before .before .before .before .before .args .k) (c .before .before .before .loop .p - 1) (omega arith) (omega arith)
+returns c =
+    let call = c .before .before .before .before .before in
+    λ e. parent-found (nodeAt (call .args .words .now)) (call .args .k) (c .before .before .before .loop .p - 1) (omega arith) (omega arith)
 
 loop-less : tie.Need-loop-less Inv-loop μ-loop
 loop-less c = omega arith

@@ -43,7 +43,9 @@ loop-less c = omega arith
 
 loop-again : tie.Need-loop-again Inv-loop μ-loop Inv-nodes μ-nodes
 loop-again c =
-    let next = times-next (nodeAt (c .before .before .before .before .before .before .before .args .words .now)) (c .before .before .before .before .before .nodes .k) (c .before .before .before .loop .p) in
+    let counting = c .before .before .before in
+    let node = counting .before .before in
+    let next = times-next (nodeAt (node .before .before .args .words .now)) (node .nodes .k) (counting .loop .p) in
     (omega arith, omega arith, omega arith)
 
 add-k : tie.Need-add-k Inv-loop μ-loop Inv-nodes μ-nodes
@@ -54,28 +56,34 @@ nodes-less c = omega arith
 
 nodes-again : tie.Need-nodes-again Inv-loop μ-loop Inv-nodes μ-nodes
 nodes-again c =
-    let nd = nodeAt (c .before .before .before .before .before .before .args .words .now) in
-    let all : c .before .before .loop .p ≡ c .before .before .before .before .nodes .k = omega arith in
-    let counted = rw all at (c .before .before .loop .inv .1) in
-    (omega arith, search-goes-on (c .before .before .before .before .nodes .inv .1) (c .before .before .before .if1 .left) (placed-if nd (c .before .before .before .before .nodes .k) (omega arith)))
+    let counting = c .before .before in
+    let node = counting .before .before in
+    let nd = nodeAt (node .before .before .args .words .now) in
+    let all : counting .loop .p ≡ node .nodes .k = omega arith in
+    let counted = rw all at (counting .loop .inv .1) in
+    (omega arith, search-goes-on (node .nodes .inv .1) (counting .before .if1 .left) (placed-if nd (node .nodes .k) (omega arith)))
 
 returns : tie.Need-returns Inv-loop μ-loop Inv-nodes μ-nodes
 returns c = rw (search-ends (c .before .nodes .inv .1) (c .if1 .taken)) refl
 
 returns-2 : tie.Need-returns-2 Inv-loop μ-loop Inv-nodes μ-nodes
 returns-2 c =
-    let nd = nodeAt (c .before .before .before .before .before .before .before .args .words .now) in
-    let k = c .before .before .before .before .before .nodes .k in
-    let p = c .before .before .before .loop .p in
+    let counting = c .before .before .before in
+    let node = counting .before .before in
+    let nd = nodeAt (node .before .before .args .words .now) in
+    let k = node .nodes .k in
+    let p = counting .loop .p in
     let next = times-next nd k p in
     let grown = times-grow nd k (p + 1) k (omega arith) in
-    rw (search-finds (c .before .before .before .before .before .nodes .inv .1) (c .before .before .before .before .if1 .left) (misplaced-if nd k (c .before .before .before .before .before .nodes .inv .0) (omega arith))) refl
+    rw (search-finds (node .nodes .inv .1) (counting .before .if1 .left) (misplaced-if nd k (node .nodes .inv .0) (omega arith))) refl
 
 returns-3 : tie.Need-returns-3 Inv-loop μ-loop Inv-nodes μ-nodes
 returns-3 c =
-    let all : c .before .before .loop .p ≡ c .before .before .before .before .nodes .k = omega arith in
-    let counted = rw all at (c .before .before .loop .inv .1) in
-    rw (search-finds (c .before .before .before .before .nodes .inv .1) (c .before .before .before .if1 .left) (misplaced-if _ _ (c .before .before .before .before .nodes .inv .0) (omega arith))) refl
+    let counting = c .before .before in
+    let node = counting .before .before in
+    let all : counting .loop .p ≡ node .nodes .k = omega arith in
+    let counted = rw all at (counting .loop .inv .1) in
+    rw (search-finds (node .nodes .inv .1) (counting .before .if1 .left) (misplaced-if _ _ (node .nodes .inv .0) (omega arith))) refl
 
 pub parents-spec : {M : Type 1} → statement M
 parents-spec =

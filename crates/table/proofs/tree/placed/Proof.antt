@@ -36,13 +36,19 @@ loop-less : tie.Need-loop-less Inv-loop μ-loop
 loop-less c = omega arith
 
 loop-again : tie.Need-loop-again Inv-loop μ-loop
-loop-again c = (omega arith, parents-so-far (nodeAt (c .before .before .before .before .before .before .before .args .words .now)) (c .before .before .before .loop .inv .1) (c .before .has-parent .ensures (c .if2 .taken)))
+loop-again c =
+    let node = c .before .before .before in
+    let words = node .before .before .before .before .args .words .now in
+    (omega arith, parents-so-far (nodeAt words) (node .loop .inv .1) (c .before .has-parent .ensures (c .if2 .taken)))
 
 returns-2 : tie.Need-returns-2 Inv-loop μ-loop
 returns-2 c = no-claim
 
 returns-3 : tie.Need-returns-3 Inv-loop μ-loop
-returns-3 c = λ e. all-placed (nodeAt (c .before .before .before .before .before .args .words .now)) (ap (λ m. m + 1) (sym (c .before .before .before .children .ensures .0)) ∙ c .before .before .if1 .left) (λ j low high. c .before .loop .inv .1 j low (omega arith))
+returns-3 c =
+    let words = c .before .before .before .before .before .args .words .now in
+    let as-many = ap (λ m. m + 1) (sym (c .before .before .before .children .ensures .0)) ∙ c .before .before .if1 .left in
+    λ e. all-placed (nodeAt words) as-many (λ j low high. c .before .loop .inv .1 j low (omega arith))
 
 pub placed-spec : {M : Type 1} → statement M
 placed-spec =
