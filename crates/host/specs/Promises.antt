@@ -18,8 +18,7 @@ use Rattle.table.specs.declared.Verdict.the-variants.{Accepted}
 use Rattle.semantics.specs.Answer.{exception-answer, code, payload}
 use Rattle.semantics.specs.Reached.{answerFor}
 use Rattle.machine.specs.CodeTells.{Tells, RanOut}
-use Rattle.inference.specs.Inference.{codeOf as inferredCode}
-use Rattle.host.specs.Entries.{packed, InfersOn, InferEntry, RunEntry}
+use Rattle.host.specs.Entries.{packed, InferEntry, RunEntry}
 use Rattle.host.specs.BytesOf8Bits.{BytesOf8Bits}
 use Rattle.host.specs.EntryReaches.{EntryReaches}
 use Rattle.host.specs.EntriesOnce as EntriesOnce
@@ -52,8 +51,8 @@ entry-place-below-512 = EntryPlaces.entry-place-below-512
 entry-payload-below-512 : {table : List ℕ} {fuel r : ℕ} → RunEntry table fuel r → r % 256 ≢ 10 → r / 4294967296 < 512
 entry-payload-below-512 = EntryPlaces.entry-payload-below-512
 
--- The inference entry's work is always enough.
-never-work-short : {words out out′ : List ℕ} {r : ℕ} (i : InfersOn words out out′ r) → inferredCode (i .after .answer) ≢ 5
+-- The inference entry never answers 5: its work is always enough.
+never-work-short : {table out out′ : List ℕ} {r : ℕ} → InferEntry table out out′ r → r % 256 ≢ 5
 never-work-short = EnoughWork.never-work-short
 
 -- A formula that inference answers with 0 never makes the run entry answer 16, at any fuel.
