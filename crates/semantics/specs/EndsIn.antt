@@ -8,6 +8,11 @@ bindingsFor nothing = 0
 bindingsFor a-binding = 1
 bindingsFor a-frame = 0
 
+abbrev pub framesFor : Need → ℕ
+framesFor nothing = 0
+framesFor a-binding = 0
+framesFor a-frame = 1
+
 pub data EndsIn {S E : Type 0} (next : S → Next S E) : S → E → ℕ → ℕ → Type 0 where
   here : {s : S} {e : E} → next s ≡ at-end e → EndsIn next s e 0 0
   by-last-step : {s : S} {e : E} → next s ≡ last-step e → EndsIn next s e 1 0

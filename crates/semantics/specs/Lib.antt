@@ -7,9 +7,15 @@ pub mod Answer
 pub mod SmallEnd
 pub mod StuckNodes
 pub mod Reached
+pub mod StopsFor
 -- Fuel and room, for any machine.
 pub mod EndsIn
 pub mod LimitsLaws
+pub mod StopsForLaws
+-- The codes of answers, and runs that name a limit.
+pub mod AnswerCodes
+pub mod FramesInUse
+pub mod LimitMeans
 -- Environments and scopes.
 pub mod InScope
 pub mod InScopeLaws

@@ -28,11 +28,12 @@ answerFor (lambda x e) = function-answer
 answerFor (let-in x e₁ e₂) = function-answer
 answerFor (rec x e) = function-answer
 
--- Some fuel and room give that answer; all greater ones, in each of the three numbers, give it with the same counts; all others give it
--- or name what ran out.
+-- There is a least room that gives that answer: all that are at least as large, in each of the three numbers, give it with the same counts;
+-- every one that gives it is at least as large; and all others name what ran out.
 pub record Reached (words : List ℕ) (a : DefinedAnswer) : Type 0 where
   pub room : Room
   pub steps : ℕ
   pub bindings : ℕ
   pub greater : (r : Room) → AtLeast room r → runTable words r ≡ record { answer = a; steps = steps; bindings = bindings }
+  pub least : (r : Room) → runTable words r .answer ≡ a → AtLeast room r
   pub others : (r : Room) → (runTable words r ≡ record { answer = a; steps = steps; bindings = bindings }) ⊎ NamesLimit (runTable words r .answer)

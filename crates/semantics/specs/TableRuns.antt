@@ -6,7 +6,7 @@ use mathlib.Core.List.{List}
 use native.Mathlib.Omega.{arith}
 use Rattle.language.specs.Expression.{Exp}
 use Rattle.language.specs.Expression as L2
-use Rattle.language.specs.Integers.{Exception, division-by-zero, overflow}
+use Rattle.language.specs.Integers.{Exception}
 use Rattle.language.specs.SmallStep.{Step, raised, Steps, Stuck, Diverges}
 use Rattle.language.specs.Ty.{Ty}
 use Rattle.language.specs.Environment.{empty}
@@ -16,9 +16,10 @@ use Rattle.table.specs.Node.{Nodes, nodeAt}
 use Rattle.table.specs.ExpressionOf.{expAt, expOf}
 use Rattle.table.specs.Tree.{Checked}
 use Rattle.table.specs.Accepted.{count-is}
-use Rattle.semantics.specs.Limits.{fuel-limit, binding-limit, frame-limit, How, ended, ran-out, Room, run}
-use Rattle.semantics.specs.Machine.{Value, unit-value, boolean-value, integer-value, operator-value, operator-with, operator-with-other, closure, End, done, stuck-at, raised-by, next, start, framesInUse}
-use Rattle.semantics.specs.Answer.{DefinedAnswer, integer-answer, boolean-answer, unit-answer, function-answer, exception-answer, stuck-answer, limit-answer, code, valueAnswer, endAnswer, answerOf, wholeAnswer, runTable}
+use Rattle.semantics.specs.Limits.{How, ended, ran-out, Room, AtLeast, run}
+use Rattle.semantics.specs.Machine.{End, done, stuck-at, raised-by, next, start, framesInUse}
+use Rattle.semantics.specs.Answer.{DefinedAnswer, exception-answer, stuck-answer, code, endAnswer, answerOf, wholeAnswer, runTable}
+use Rattle.semantics.specs.AnswerCodes.{answer-code, exception-code, end-code, limit-code, value-code}
 use Rattle.semantics.specs.SmallEnd.{EndsAs, got-stuck, an-integer, a-boolean, the-unit, a-function, an-exception, a-lambda, an-operator, an-operator-with}
 use Rattle.semantics.specs.Reached.{NamesLimit, answerFor, Reached}
 use Rattle.semantics.specs.EndsIn.{EndsIn}
@@ -76,24 +77,28 @@ module _ {words : List ℕ} {n : ℕ} (checked : Checked words n) where
 
   end-is-reached : {end : End} {i m : ℕ} → EndsIn (next nd) start end i m → Reached words (endAnswer end)
   unfolding runTable
-  end-is-reached {i} {m} x =
-      let (room, all-greater) = LimitsLaws.enough (next nd) framesInUse x in
+  end-is-reached {end} {i} {m} x =
       record {
-        room = room;
+        room = LimitsLaws.leastRoom (next nd) framesInUse x;
         steps = i;
         bindings = m;
-        greater = λ r h. ap wholeAnswer (all-greater r h);
+        greater = λ r h. ap wholeAnswer (LimitsLaws.enough (next nd) framesInUse x r h);
+        least = λ r is. needed r (run (next nd) framesInUse r start .how) refl is;
         others = λ r. ⊎-map (ap wholeAnswer) (λ out. record { limit = out .0; names = ap answerOf (out .1) }) (LimitsLaws.ended-or-ran-out (next nd) framesInUse x r);
       }
+    where
+      needed : (r : Room) (how : How End) → run (next nd) framesInUse r start .how ≡ how → answerOf how ≡ endAnswer end → AtLeast (LimitsLaws.leastRoom (next nd) framesInUse x) r
+      needed r (ended end′) so is = LimitsLaws.needed (next nd) framesInUse x r so
+      needed r (ran-out l) so is = absurd (omega (arith, end-code end, limit-code l, ap code is))
 
-  reached : {a : DefinedAnswer} → EndsAs e a → ((k : ℕ) → ¬ (a ≡ stuck-answer k)) → Reached words a
+  reached : {a : DefinedAnswer} → EndsAs e a → code a ≤ 15 → Reached words a
   reached {a} ends no-stuck =
       let (end, i, m, x, alike) = EndsLikeSmallSteps.small-end-is-machine-end (checked .tree) (subst (λ (f : Exp). EndsAs f a) (sym root-is) ends) in
       subst (Reached words) (sym (equal alike no-stuck)) (end-is-reached x)
     where
-      equal : {a b : DefinedAnswer} → Alike a b → ((k : ℕ) → ¬ (a ≡ stuck-answer k)) → a ≡ b
+      equal : {a b : DefinedAnswer} → Alike a b → code a ≤ 15 → a ≡ b
       equal same h = refl
-      equal (both-stuck {j}) h = absurd (h j refl)
+      equal both-stuck h = absurd (omega arith)
 
   value-ends : {v : Exp} → Steps e v → L2.Value v → EndsAs e (answerFor v)
   value-ends s (L2.constant-value {c = L2.unit-element}) = the-unit s
@@ -104,18 +109,10 @@ module _ {words : List ℕ} {n : ℕ} (checked : Checked words n) where
   value-ends s (L2.operator-value v) = a-function s (an-operator-with v)
 
   pub value-is-reached : {v : Exp} → Steps e v → L2.Value v → Reached words (answerFor v)
-  value-is-reached steps value = reached (value-ends steps value) (no-stuck value)
-    where
-      no-stuck : {v : Exp} → L2.Value v → (k : ℕ) → ¬ (answerFor v ≡ stuck-answer k)
-      no-stuck (L2.constant-value {c = L2.unit-element}) k is = let z : _≡_ {A = ℕ} 0 1 = cc in omega arith
-      no-stuck (L2.constant-value {c = L2.boolean b}) k is = let z : _≡_ {A = ℕ} 0 1 = cc in omega arith
-      no-stuck (L2.constant-value {c = L2.integer z}) k is = let z : _≡_ {A = ℕ} 0 1 = cc in omega arith
-      no-stuck (L2.constant-value {c = L2.operator o}) k is = let z : _≡_ {A = ℕ} 0 1 = cc in omega arith
-      no-stuck L2.lambda-value k is = let z : _≡_ {A = ℕ} 0 1 = cc in omega arith
-      no-stuck (L2.operator-value v) k is = let z : _≡_ {A = ℕ} 0 1 = cc in omega arith
+  value-is-reached steps value = reached (value-ends steps value) (omega (arith, value-code value))
 
   pub exception-is-reached : {e′ : Exp} {x : Exception} → Steps e e′ → Step e′ (raised x) → Reached words (exception-answer x)
-  exception-is-reached steps raises = reached (an-exception steps raises) (λ k is. let z : _≡_ {A = ℕ} 0 1 = cc in omega arith)
+  exception-is-reached {x = x} steps raises = reached (an-exception steps raises) (exception-code x)
 
   -- ---- Without end
 
@@ -124,17 +121,8 @@ module _ {words : List ℕ} {n : ℕ} (checked : Checked words n) where
 
   -- ---- Where a run gets stuck
 
-  value-not-stuck : (v : Value) {k : ℕ} → ¬ (valueAnswer v ≡ stuck-answer k)
-  value-not-stuck unit-value is = let z : _≡_ {A = ℕ} 0 1 = cc in omega arith
-  value-not-stuck (boolean-value b) is = let z : _≡_ {A = ℕ} 0 1 = cc in omega arith
-  value-not-stuck (integer-value i) is = let z : _≡_ {A = ℕ} 0 1 = cc in omega arith
-  value-not-stuck (operator-value o) is = let z : _≡_ {A = ℕ} 0 1 = cc in omega arith
-  value-not-stuck (operator-with o i) is = let z : _≡_ {A = ℕ} 0 1 = cc in omega arith
-  value-not-stuck (operator-with-other o) is = let z : _≡_ {A = ℕ} 0 1 = cc in omega arith
-  value-not-stuck (closure x b η) is = let z : _≡_ {A = ℕ} 0 1 = cc in omega arith
-
   only-stuck : (end : End) {k : ℕ} → endAnswer end ≡ stuck-answer k → end ≡ stuck-at k
-  only-stuck (done v) is = absurd (value-not-stuck v is)
+  only-stuck (done v) is = absurd (omega (arith, answer-code v, ap code is))
   only-stuck (stuck-at j) is = cc
   only-stuck (raised-by x) is = absurd (let z : _≡_ {A = ℕ} 0 1 = cc in omega arith)
 
@@ -147,17 +135,3 @@ module _ {words : List ℕ} {n : ℕ} (checked : Checked words n) where
       go (ended end) so is =
           let x = LimitsLaws.ended-is-end (next nd) framesInUse room start so in
           InScopeLaws.ends-stuck-at-application-or-if (checked .tree) (subst (λ (x : End). EndsIn (next nd) start x (run (next nd) framesInUse room start .steps) (run (next nd) framesInUse room start .made)) (only-stuck end is) x)
-
--- ---- Codes
-
-pub answers-10-to-19 : (a : DefinedAnswer) → (10 ≤ code a) × (code a ≤ 19)
-answers-10-to-19 (integer-answer n) = omega arith
-answers-10-to-19 (boolean-answer b) = omega arith
-answers-10-to-19 unit-answer = omega arith
-answers-10-to-19 function-answer = omega arith
-answers-10-to-19 (exception-answer division-by-zero) = omega arith
-answers-10-to-19 (exception-answer overflow) = omega arith
-answers-10-to-19 (stuck-answer k) = omega arith
-answers-10-to-19 (limit-answer fuel-limit) = omega arith
-answers-10-to-19 (limit-answer binding-limit) = omega arith
-answers-10-to-19 (limit-answer frame-limit) = omega arith
