@@ -15,12 +15,13 @@ use Rattle.language.specs.SmallStep.{raised, Step, Steps, Diverges}
 use Rattle.table.specs.Refusals.{checkOf}
 use Rattle.table.specs.ExpressionOf.{expOf}
 use Rattle.table.specs.declared.Verdict.the-variants.{Accepted}
-use Rattle.semantics.specs.Answer.{exception-answer, code, payload}
+use Rattle.semantics.specs.Limits.{AtLeast}
+use Rattle.semantics.specs.Answer.{DefinedAnswer, exception-answer}
 use Rattle.semantics.specs.Reached.{answerFor}
 use Rattle.machine.specs.CodeTells.{Tells, RanOut}
 use Rattle.host.specs.Entries.{packed, InferEntry, RunEntry}
 use Rattle.host.specs.BytesOf8Bits.{BytesOf8Bits}
-use Rattle.host.specs.EntryReaches.{EntryReaches}
+use Rattle.host.specs.EntryReaches.{entryRoom, EntryReaches}
 use Rattle.host.specs.EntriesOnce as EntriesOnce
 use Rattle.host.specs.Parts as Parts
 use Rattle.host.specs.EnoughWork as EnoughWork
@@ -66,14 +67,19 @@ module _ {table : List ℕ} {n : ℕ} (whole : length table % 16 ≡ 0) (accepte
   entry-tells-end : {fuel r : ℕ} → BytesOf8Bits table → RunEntry table fuel r → Tells (expOf (fromBytes table)) (r % 256) (r / 4294967296) ⊎ RanOut (r % 256)
   entry-tells-end = EntryEnds.entry-tells-end whole accepted
 
-  -- If the small steps bring the formula to a value or an exception for which 512 cells of each kind are enough, some fuel and all greater
-  -- give that end, and every entry call gives it or names what ran out.
-  value-is-reached-by-entries : {v : Exp} → Steps (expOf (fromBytes table)) v → L2.Value v → EntryReaches table (code (answerFor v)) (payload (answerFor v))
+  -- If the small steps bring the formula to a value or an exception, there is a least room for that end: if it has at most 512 bindings and
+  -- frames, the entry calls with at least its fuel give that end, and all others name what ran out.
+  value-is-reached-by-entries : {v : Exp} → Steps (expOf (fromBytes table)) v → L2.Value v → EntryReaches table (answerFor v)
   value-is-reached-by-entries = EntryEnds.value-is-reached-by-entries whole accepted
 
-  exception-is-reached-by-entries : {e′ : Exp} {x : Exception} → Steps (expOf (fromBytes table)) e′ → Step e′ (raised x) → EntryReaches table (code (exception-answer x)) 0
+  exception-is-reached-by-entries : {e′ : Exp} {x : Exception} → Steps (expOf (fromBytes table)) e′ → Step e′ (raised x) → EntryReaches table (exception-answer x)
   exception-is-reached-by-entries = EntryEnds.exception-is-reached-by-entries whole accepted
 
   -- If the small steps go on without end, every entry call names what ran out.
   endless-entries-run-out : Diverges (expOf (fromBytes table)) → {fuel r : ℕ} → RunEntry table fuel r → RanOut (r % 256)
   endless-entries-run-out = EntryEnds.endless-entries-run-out whole accepted
+
+-- Where a formula has such a least room, an entry call with less, in one of the three numbers, names what ran out.
+less-entry-room-runs-out : {table : List ℕ} {a : DefinedAnswer} (reaches : EntryReaches table a) {fuel r : ℕ} → RunEntry table fuel r →
+    ¬ AtLeast (reaches .defined .room) (entryRoom fuel) → RanOut (r % 256)
+less-entry-room-runs-out = EntryEnds.less-entry-room-runs-out

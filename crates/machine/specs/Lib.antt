@@ -28,5 +28,6 @@ pub mod FormulaInRange
 pub mod CallEnds
 pub mod NeverStuck
 pub mod CodeMeans
+pub mod LimitCodes
 pub mod CallLimits
 pub mod AnswerNumbers

@@ -12,21 +12,21 @@ use Rattle.semantics.specs.Machine.{Value, unit-value, boolean-value, in
 use Rattle.semantics.specs.Answer.{DefinedAnswer, integer-answer, boolean-answer, unit-answer, function-answer, exception-answer, stuck-answer, limit-answer, code, valueAnswer, endAnswer}
 use Rattle.semantics.specs.Reached.{answerFor}
 
-pub answer-code : (v : Value) → code (valueAnswer v) ≤ 13
-answer-code unit-value = omega arith
-answer-code (boolean-value b) = omega arith
-answer-code (integer-value i) = omega arith
-answer-code (operator-value o) = omega arith
-answer-code (operator-with o i) = omega arith
-answer-code (operator-with-other o) = omega arith
-answer-code (closure x b η) = omega arith
+pub value-answer-code : (v : Value) → code (valueAnswer v) ≤ 13
+value-answer-code unit-value = omega arith
+value-answer-code (boolean-value b) = omega arith
+value-answer-code (integer-value i) = omega arith
+value-answer-code (operator-value o) = omega arith
+value-answer-code (operator-with o i) = omega arith
+value-answer-code (operator-with-other o) = omega arith
+value-answer-code (closure x b η) = omega arith
 
 pub exception-code : (x : Exception) → code (exception-answer x) ≤ 15
 exception-code division-by-zero = omega arith
 exception-code overflow = omega arith
 
 pub end-code : (end : End) → code (endAnswer end) ≤ 16
-end-code (done v) = omega (arith, answer-code v)
+end-code (done v) = omega (arith, value-answer-code v)
 end-code (stuck-at k) = omega arith
 end-code (raised-by x) = omega (arith, exception-code x)
 
@@ -66,10 +66,10 @@ answers-10-to-19 (limit-answer fuel-limit) = omega arith
 answers-10-to-19 (limit-answer binding-limit) = omega arith
 answers-10-to-19 (limit-answer frame-limit) = omega arith
 
-pub value-code : {v : Exp} → L2.Value v → code (answerFor v) ≤ 13
-value-code (L2.constant-value {c = L2.unit-element}) = omega arith
-value-code (L2.constant-value {c = L2.boolean b}) = omega arith
-value-code (L2.constant-value {c = L2.integer z}) = omega arith
-value-code (L2.constant-value {c = L2.operator o}) = omega arith
-value-code L2.lambda-value = omega arith
-value-code (L2.operator-value v) = omega arith
+pub answer-for-code : {v : Exp} → L2.Value v → code (answerFor v) ≤ 13
+answer-for-code (L2.constant-value {c = L2.unit-element}) = omega arith
+answer-for-code (L2.constant-value {c = L2.boolean b}) = omega arith
+answer-for-code (L2.constant-value {c = L2.integer z}) = omega arith
+answer-for-code (L2.constant-value {c = L2.operator o}) = omega arith
+answer-for-code L2.lambda-value = omega arith
+answer-for-code (L2.operator-value v) = omega arith

@@ -19,7 +19,7 @@ use Rattle.table.specs.Accepted.{count-is}
 use Rattle.semantics.specs.Limits.{How, ended, ran-out, Room, AtLeast, run}
 use Rattle.semantics.specs.Machine.{End, done, stuck-at, raised-by, next, start, framesInUse}
 use Rattle.semantics.specs.Answer.{DefinedAnswer, exception-answer, stuck-answer, code, endAnswer, answerOf, wholeAnswer, runTable}
-use Rattle.semantics.specs.AnswerCodes.{answer-code, exception-code, end-code, limit-code, value-code}
+use Rattle.semantics.specs.AnswerCodes.{value-answer-code, exception-code, end-code, limit-code, answer-for-code}
 use Rattle.semantics.specs.SmallEnd.{EndsAs, got-stuck, an-integer, a-boolean, the-unit, a-function, an-exception, a-lambda, an-operator, an-operator-with}
 use Rattle.semantics.specs.Reached.{NamesLimit, answerFor, Reached}
 use Rattle.semantics.specs.EndsIn.{EndsIn}
@@ -109,7 +109,7 @@ module _ {words : List ℕ} {n : ℕ} (checked : Checked words n) where
   value-ends s (L2.operator-value v) = a-function s (an-operator-with v)
 
   pub value-is-reached : {v : Exp} → Steps e v → L2.Value v → Reached words (answerFor v)
-  value-is-reached steps value = reached (value-ends steps value) (omega (arith, value-code value))
+  value-is-reached steps value = reached (value-ends steps value) (omega (arith, answer-for-code value))
 
   pub exception-is-reached : {e′ : Exp} {x : Exception} → Steps e e′ → Step e′ (raised x) → Reached words (exception-answer x)
   exception-is-reached {x = x} steps raises = reached (an-exception steps raises) (exception-code x)
@@ -122,7 +122,7 @@ module _ {words : List ℕ} {n : ℕ} (checked : Checked words n) where
   -- ---- Where a run gets stuck
 
   only-stuck : (end : End) {k : ℕ} → endAnswer end ≡ stuck-answer k → end ≡ stuck-at k
-  only-stuck (done v) is = absurd (omega (arith, answer-code v, ap code is))
+  only-stuck (done v) is = absurd (omega (arith, value-answer-code v, ap code is))
   only-stuck (stuck-at j) is = cc
   only-stuck (raised-by x) is = absurd (let z : _≡_ {A = ℕ} 0 1 = cc in omega arith)
 
