@@ -24,3 +24,7 @@ decimal n = digitsWithin (suc n) n
 abbrev pub signedDecimal : ℤ → List ℕ
 signedDecimal (pos n) = decimal n
 signedDecimal (negsuc n) = 45 ∷ decimal (suc n)
+
+-- Digits that do not begin with 0.
+pub data NoZeroFirst : List ℕ → Type 0 where
+  first-is : {b : ℕ} {bytes : List ℕ} → b ≢ digitByte 0 → NoZeroFirst (b ∷ bytes)

@@ -84,9 +84,6 @@ printed-is-read n h =
 -- ---- No leading zeros
 
 -- The first digit is not 0.
-pub data NoZeroFirst : List ℕ → Type 0 where
-  first-is : {b : ℕ} {bytes : List ℕ} → b ≢ digitByte 0 → NoZeroFirst (b ∷ bytes)
-
 first-stays : {bytes : List ℕ} (more : List ℕ) → NoZeroFirst bytes → NoZeroFirst (bytes ++ more)
 first-stays more (first-is n) = first-is n
 
