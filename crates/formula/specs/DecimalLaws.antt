@@ -11,7 +11,7 @@ use lib.ListN.{length, length-append}
 use borrow.Author.Tests.{lt-ltb, le-ltb, le-leb}
 use Rattle.formula.specs.Input.{isDigit, allDigits, withDigit, valueOf, wordLimit, numberOf}
 use Rattle.formula.specs.TokenLaws.{all-digits-append, value-append}
-use Rattle.formula.specs.Decimal.{digitByte, digitsWithin, decimal}
+use Rattle.formula.specs.Decimal.{digitByte, digitsWithin, decimal, NoZeroFirst, first-is}
 
 -- ---- The first digit, and the others
 
