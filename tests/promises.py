@@ -1,9 +1,8 @@
 #!/usr/bin/env python3
 """Holds docs/PROMISES.md to the files: each file is there, each name that follows a file is declared in it, each edit is there; and its
-first table lists the files that there are to believe, no more and no less.
+first table lists the files that there are to believe, no more and no less, in which nothing is declared that no promise needs.
 
-usage: promises.py, or promises.py --why FILE for the way from a row or a public function to a file that is to be believed, or
-promises.py --unreached for what is declared in the listed files and nothing on the page needs.
+usage: promises.py, or promises.py --why FILE for the way from a row or a public function to a file that is to be believed
 
 A citation is `path`: `name`, `name`, ..; a `word_like_this` in a last column is an edit of some crate's must-fail/. What a cited theorem
 states, the whole text of a cited definition, and the contracts of the cited and of all public functions are to be believed, and with them
@@ -124,7 +123,7 @@ class Believed:
         for path in sorted(listed & set(self.specs.files)):
             names = [declaration.name for declaration in self.specs.files[path].declared if declaration not in self.mentioned_by]
             if names:
-                yield "%s: %s" % (path, ", ".join(names))
+                yield "%s declares what no promise needs: %s" % (path, ", ".join(names))
 
     def differences(self, listed):
         for path in sorted(self.files() - listed):
@@ -139,11 +138,8 @@ def main():
     if sys.argv[1:2] == ["--why"]:
         print("\n\n".join("\n  -> ".join(way) for way in believed.ways_to(sys.argv[2])) or "nothing needs %s" % sys.argv[2])
         return
-    if sys.argv[1:] == ["--unreached"]:
-        print("\n".join(believed.unreached(listed)))
-        return
     edits, missing = missing_edits(page)
-    missing += missing_citations(page) + list(believed.differences(listed))
+    missing += missing_citations(page) + list(believed.differences(listed)) + list(believed.unreached(listed))
     names = len(cited(page))
     if missing or names < 20:
         sys.exit("\n".join(missing) or "only %d names are cited" % names)

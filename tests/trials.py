@@ -36,7 +36,7 @@ def lines(program, trials):
 # ---- Lent words. The program gives each word that it lends a number of its own, and writes the sum of all words after the call.
 
 LONGEST = 33000  # words in a lent slice
-STRIDE, BASE, PRIME = 100003, 1000003, 4294967291
+STRIDE, BASE, PRIME = 100003, 1000003, 4294967311
 
 
 def sum_of(words, total=0):

@@ -35,12 +35,12 @@ typeIn out (Typed count) = take count out
 typeIn out (Refused code place) = []
 
 -- CODE PLACE, and the words of the type.
-abbrev pub typeLine : After → List ℕ
-typeLine a = Inference.codeOf (a .answer) ∷ Inference.placeOf (a .answer) ∷ typeIn (a .out) (a .answer)
+abbrev pub typeNumbers : After → List ℕ
+typeNumbers a = Inference.codeOf (a .answer) ∷ Inference.placeOf (a .answer) ∷ typeIn (a .out) (a .answer)
 
 -- CODE PAYLOAD STEPS BINDINGS, where an integer is its pattern of 32 bits.
-abbrev pub runLine : Ran → List ℕ
-runLine r = Run.codeOf (r .answer) ∷ Run.payloadOf (r .answer) ∷ r .steps ∷ r .bindings ∷ []
+abbrev pub runNumbers : Ran → List ℕ
+runNumbers r = Run.codeOf (r .answer) ∷ Run.payloadOf (r .answer) ∷ r .steps ∷ r .bindings ∷ []
 
 -- So many of a line's first numbers as are stated.
 abbrev pub asFar : List ℕ → List ℕ → List ℕ
@@ -50,11 +50,11 @@ asFar stated line = take (length stated) line
 
 -- Of inference, with any work slice of 24 × nodes + 16 words or more.
 pub record InferenceGives (words : List ℕ) (room : ℕ) (stated : List ℕ) : Type 0 where
-  pub always : {work out : List ℕ} {a : After} → workFor (countOf words) ≤ length work → length out ≡ room → Infers words work out a → asFar stated (typeLine a) ≡ stated
+  pub always : {work out : List ℕ} {a : After} → workFor (countOf words) ≤ length work → length out ≡ room → Infers words work out a → asFar stated (typeNumbers a) ≡ stated
 
 pub record RunGives (words : List ℕ) (fuel bindingRoom frameRoom : ℕ) (stated : List ℕ) : Type 0 where
   pub always : {bindings frames bindings′ frames′ : List ℕ} {r : Ran} → capacityOf (length bindings) ≡ bindingRoom → capacityOf (length frames) ≡ frameRoom →
-      RunIs words fuel bindings frames bindings′ frames′ r → asFar stated (runLine r) ≡ stated
+      RunIs words fuel bindings frames bindings′ frames′ r → asFar stated (runNumbers r) ≡ stated
 
 abbrev pub CallGives : List ℕ → Call → List ℕ → Type 0
 CallGives words (inference out) stated = InferenceGives words out stated

@@ -11,7 +11,7 @@ use Rattle.table.specs.Accepted.{accepted-is-checked, count-is}
 use Rattle.table.specs.declared.Verdict.the-variants.{Accepted}
 use Rattle.inference.specs.Inference.{workFor, withType, After, Infers, turned, work-short, no-type, out-short, typed}
 use Rattle.inference.specs.Textbook.{infers-textbook}
-use Rattle.bench.specs.Bench.{Call, inference, run, Row, typeLine, asFar, InferenceGives, CallGives, Holds, Each}
+use Rattle.bench.specs.Bench.{Call, inference, run, Row, typeNumbers, asFar, InferenceGives, CallGives, Holds, Each}
 use Rattle.bench.specs.Computed.{lineOf, computed}
 
 -- ---- Inference: of the lent slices, its line depends on the lengths only
@@ -27,11 +27,11 @@ module _ (words : List ℕ) where
   zeros-are-enough v = rw (length-replicate, accepted-count v) (omega arith)
 
   module _ (room : ℕ) where
-    line-of-textbook : {a : After} → Infers words (zeros (workFor (countOf words))) (zeros room) a → typeLine a ≡ lineOf words (inference room)
-    line-of-textbook i = ap typeLine (infers-textbook i)
+    line-of-textbook : {a : After} → Infers words (zeros (workFor (countOf words))) (zeros room) a → typeNumbers a ≡ lineOf words (inference room)
+    line-of-textbook i = ap typeNumbers (infers-textbook i)
 
     module _ {work out : List ℕ} (enough : workFor (countOf words) ≤ length work) (lent : length out ≡ length (zeros room)) where
-      line-by-lengths : {a : After} → Infers words work out a → typeLine a ≡ lineOf words (inference room)
+      line-by-lengths : {a : After} → Infers words work out a → typeNumbers a ≡ lineOf words (inference room)
       line-by-lengths (turned v is) = rw is (line-of-textbook (turned v refl))
       line-by-lengths (work-short v short is) = absurd (let c = accepted-count v in omega (arith, c, short, enough))
       line-by-lengths (no-type v _ untyped is) = rw is (line-of-textbook (no-type v (zeros-are-enough v) untyped refl))

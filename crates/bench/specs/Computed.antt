@@ -2,7 +2,7 @@
 use Prim.Native.Nat.{ℕ}
 use mathlib.Core.List.{List}
 use Rattle.language.specs.Integers.{meaning}
-use Rattle.language.specs.WrittenForm.{occurs, appearing, placeIn, spell, wordsOf}
+use Rattle.language.specs.WrittenForm.{isAmong, appearing, placeIn, spell, wordsOf}
 use Rattle.lent.specs.Cleared.{zeros}
 use Rattle.table.specs.Node.{nodeOf, nodeAt}
 use Rattle.table.specs.Refusals.{countOf, fitsRule, timesBelow, firstFrom, checkOf}
@@ -13,14 +13,14 @@ use Rattle.machine.specs.Runs.{ranOf, runAfter}
 use Rattle.equations.specs.Inferred.{inferred}
 use Rattle.inference.specs.Inference.{workFor}
 use Rattle.inference.specs.Textbook.{textbook}
-use Rattle.bench.specs.Bench.{Call, inference, run, Row, typeLine, runLine, asFar}
+use Rattle.bench.specs.Bench.{Call, inference, run, Row, typeNumbers, runNumbers, asFar}
 
 -- Inference by the textbook's unification, and the run by the machine's definition.
 abbrev pub lineOf : List ℕ → Call → List ℕ
-lineOf words (inference out) = typeLine (textbook words (zeros (workFor (countOf words))) (zeros out))
-lineOf words (run fuel bindings frames) = runLine (runAfter (checkOf words) (ranOf words fuel bindings frames))
+lineOf words (inference out) = typeNumbers (textbook words (zeros (workFor (countOf words))) (zeros out))
+lineOf words (run fuel bindings frames) = runNumbers (runAfter (checkOf words) (ranOf words fuel bindings frames))
 
 -- To unfold it is to unfold all that it computes with.
 unfoldable pub computed : Row → List ℕ
-unfolding textbook checkOf fitsRule timesBelow firstFrom inferred nodeAt nodeOf wordsOf spell appearing placeIn occurs runTable runFrom newestBinding meaning
+unfolding textbook checkOf fitsRule timesBelow firstFrom inferred nodeAt nodeOf wordsOf spell appearing placeIn isAmong runTable runFrom newestBinding meaning
 computed row = asFar (row .stated) (lineOf (row .table) (row .call))

@@ -1,5 +1,6 @@
 -- Numbers as the program prints them.
 use Prim.Native.Nat.{ℕ, zero, suc, _+_, _/_, _%_}
+use mathlib.Core.Logic.{_≢_}
 use mathlib.Core.Bool.{cond}
 use mathlib.Core.List.{List, [], _∷_, _++_}
 use lib.Dec.{ltb}
@@ -24,3 +25,7 @@ decimal n = digitsWithin (suc n) n
 abbrev pub signedDecimal : ℤ → List ℕ
 signedDecimal (pos n) = decimal n
 signedDecimal (negsuc n) = 45 ∷ decimal (suc n)
+
+-- Digits that do not begin with 0.
+pub data NoZeroFirst : List ℕ → Type 0 where
+  first-is : {b : ℕ} {bytes : List ℕ} → b ≢ digitByte 0 → NoZeroFirst (b ∷ bytes)

@@ -11,7 +11,7 @@ use lib.ListN.{length, length-append}
 use borrow.Author.Tests.{lt-ltb, le-ltb, le-leb}
 use Rattle.formula.specs.Input.{isDigit, allDigits, withDigit, valueOf, wordLimit, numberOf}
 use Rattle.formula.specs.TokenLaws.{all-digits-append, value-append}
-use Rattle.formula.specs.Decimal.{digitByte, digitsWithin, decimal}
+use Rattle.formula.specs.Decimal.{digitByte, digitsWithin, decimal, NoZeroFirst, first-is}
 
 -- ---- The first digit, and the others
 
@@ -84,9 +84,6 @@ printed-is-read n h =
 -- ---- No leading zeros
 
 -- The first digit is not 0.
-pub data NoZeroFirst : List ℕ → Type 0 where
-  first-is : {b : ℕ} {bytes : List ℕ} → b ≢ digitByte 0 → NoZeroFirst (b ∷ bytes)
-
 first-stays : {bytes : List ℕ} (more : List ℕ) → NoZeroFirst bytes → NoZeroFirst (bytes ++ more)
 first-stays more (first-is n) = first-is n
 

@@ -5,6 +5,8 @@ pub mod Scan
 pub mod Decimal
 pub mod Lines
 pub mod Program
+pub mod Reading
+pub mod Responding
 -- The scan gives the words of the input.
 pub mod TokenLaws
 pub mod ScanIsWordsIn
@@ -14,13 +16,15 @@ pub mod DecimalLaws
 pub mod Scanning
 pub mod ScanningLaws
 -- The code of the reads.
-pub mod Reading
+pub mod Turns
 pub mod ReadingLaws
 -- The code of the lines.
+pub mod TypeHead
 pub mod Putting
 pub mod PrintingLaws
+pub mod PrintedPayload
 -- The program.
-pub mod Responding
+pub mod TwoLinesIn
 pub mod ProgramLaws
 pub mod WholeInput
 pub mod PrintsOnce

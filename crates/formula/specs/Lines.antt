@@ -28,10 +28,6 @@ line first others = first ++ spaced others ++ 10 ∷ []
 abbrev pub typeText : List ℕ
 typeText = 116 ∷ 121 ∷ 112 ∷ 101 ∷ []
 
--- The line up to its place.
-abbrev pub typeHead : ℕ → ℕ → List ℕ
-typeHead code place = typeText ++ spaced (decimal code ∷ decimal place ∷ [])
-
 abbrev pub typeWords : Inferred → List ℕ → List ℕ
 typeWords (Typed count) out = take count out
 typeWords (NoType code place) out = []
@@ -46,12 +42,12 @@ abbrev pub runText : List ℕ
 runText = 114 ∷ 117 ∷ 110 ∷ []
 
 -- The signed integer, the boolean as 0 or 1, the node of codes 2, 3, 4 and 16, else 0: what a run answers, with its bits read as signed. That
--- changes an integer only, since no node is as large as 2147483648 (`plain-payload`).
-abbrev pub payload : Answer → ℤ
-payload answer = toZ w32 (payloadOf answer)
+-- changes an integer only (`PrintedPayload`).
+abbrev pub printedPayload : Answer → ℤ
+printedPayload answer = toZ w32 (payloadOf answer)
 
 abbrev pub runLine : Ran → List ℕ
-runLine ran = line runText (decimal (runCode (ran .answer)) ∷ signedDecimal (payload (ran .answer)) ∷ decimal (ran .steps) ∷ decimal (ran .bindings) ∷ [])
+runLine ran = line runText (decimal (runCode (ran .answer)) ∷ signedDecimal (printedPayload (ran .answer)) ∷ decimal (ran .steps) ∷ decimal (ran .bindings) ∷ [])
 
 -- ---- `input`
 

@@ -16,7 +16,8 @@ use Rattle.machine.specs.declared.Ran.{Ran}
 use Rattle.formula.specs.Input.{wordLimit}
 use Rattle.formula.specs.Decimal.{digitByte, decimal, signedDecimal}
 use Rattle.formula.specs.DecimalLaws.{one-digit, more-digits, ten-digits}
-use Rattle.formula.specs.Lines.{spaced, typeText, typeHead, typeLine, runText, payload, runLine}
+use Rattle.formula.specs.Lines.{spaced, typeText, typeLine, runText, printedPayload, runLine}
+use Rattle.formula.specs.TypeHead.{typeHead}
 use Rattle.formula.specs.Putting.{TextPut, PutWithin, TypeFits, put-none, put-then, within-more, spaced-append, spaced-one, line-begins, line-goes-on, line-more, line-ends}
 
 -- ---- Digits
@@ -134,7 +135,7 @@ refused-line code place out head end = within-more (omega arith) (line-ends type
 -- ---- The line of a run
 
 pub ran-line : (ran : Ran) {text text₁ text₂ text₃ text₄ text₅ text₆ : List ℕ} {at at₁ at₂ at₃ at₄ at₅ at₆ : ℕ} → TextPut text at runText text₁ at₁ →
-    PutWithin 11 text₁ at₁ (32 ∷ decimal (runCode (ran .answer))) text₂ at₂ → PutWithin 12 text₂ at₂ (32 ∷ signedDecimal (payload (ran .answer))) text₃ at₃ →
+    PutWithin 11 text₁ at₁ (32 ∷ decimal (runCode (ran .answer))) text₂ at₂ → PutWithin 12 text₂ at₂ (32 ∷ signedDecimal (printedPayload (ran .answer))) text₃ at₃ →
     PutWithin 11 text₃ at₃ (32 ∷ decimal (ran .steps)) text₄ at₄ → PutWithin 11 text₄ at₄ (32 ∷ decimal (ran .bindings)) text₅ at₅ → TextPut text₅ at₅ (10 ∷ []) text₆ at₆ →
     PutWithin 49 text at (runLine ran) text₆ at₆
 ran-line ran name code paid steps bindings end =

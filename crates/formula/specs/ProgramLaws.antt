@@ -17,7 +17,8 @@ use Rattle.formula.specs.Scanning.{scannedWords, EndsWith}
 use Rattle.formula.specs.Lines.{spaced, typeLine, runLine, inputText}
 use Rattle.formula.specs.Putting.{TextPut, PutWithin, TypeFits, put-then}
 use Rattle.formula.specs.Program.{no-words, answered}
-use Rattle.formula.specs.Responding.{TwoLinesIn, Responds}
+use Rattle.formula.specs.TwoLinesIn.{TwoLinesIn}
+use Rattle.formula.specs.Responding.{Responds}
 use Rattle.formula.specs.declared.scan.Ended.{Ended}
 use Rattle.formula.specs.declared.scan.Ended.the-variants.{Words, Failed as NoWords}
 

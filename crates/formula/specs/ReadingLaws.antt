@@ -18,8 +18,8 @@ use Rattle.libc.specs.Io.{Moved}
 use Rattle.formula.specs.Scan.{ScanState, failed, scanByte, scanned}
 use Rattle.formula.specs.ScanIsWordsIn.{scan-in-pieces}
 use Rattle.formula.specs.Scanning.{scanStateOf, Stands}
-use Rattle.formula.specs.Reading.{afterRead, hasNotFailed, readsOn, PieceRead, NoneEmpty, no-piece, one-more, afterReads}
-use Rattle.formula.specs.Reading.{ReadingEnds, at-the-end, scan-failed, read-failed, turns-used-up, InputRead}
+use Rattle.formula.specs.Reading.{NoneEmpty, no-piece, one-more, afterReads, ReadingEnds, at-the-end, scan-failed, read-failed, turns-used-up}
+use Rattle.formula.specs.Turns.{afterRead, hasNotFailed, readsOn, PieceRead, InputRead}
 use Rattle.formula.specs.declared.scan.Scanner.{Scanner}
 use Rattle.formula.specs.declared.scan.Scanner.the-variants.{Failed, Between, Inside}
 use Rattle.formula.specs.declared.read.Turn.{Turn}

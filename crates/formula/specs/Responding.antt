@@ -1,17 +1,12 @@
--- What the parts of the program keep to, from a scan to the text that answers it.
+-- A text that answers the input that was read.
 use Prim.Native.Nat.{ℕ, _≤_}
 use mathlib.Core.Path.{_≡_}
 use mathlib.Core.List.{List, flatten}
 use lib.ListN.{length, take}
 use lib.IntN.{ℤ}
 use Rattle.formula.specs.Scan.{ScanState, scanned}
-use Rattle.formula.specs.Program.{TwoLines, Prints}
+use Rattle.formula.specs.Program.{Prints}
 use Rattle.formula.specs.Reading.{afterReads, Reads}
-
--- The first n bytes of the text are a table's two lines.
-pub record TwoLinesIn (words text : List ℕ) (n : ℕ) : Type 0 where
-  pub inside : n ≤ length text
-  pub lines : TwoLines words (take n text)
 
 -- That is printed for every input that leads to the state.
 pub record Responds (state : ScanState) (text : List ℕ) (n : ℕ) : Type 0 where

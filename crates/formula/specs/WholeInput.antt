@@ -1,8 +1,9 @@
--- What the program writes is what is printed for its whole input.
+-- What the program writes is what is printed for an input of which the pieces that it names are the beginning, and the whole where reading
+-- came to the end.
 use Prim.Native.Nat.{ℕ, _+_, _<_}
 use mathlib.Core.Path.{_≡_, refl, sym, _∙_, ap}
 use mathlib.Core.Logic.{_≢_}
-use mathlib.Core.List.{List, [], _∷_, _++_, foldl, flatten}
+use mathlib.Core.List.{List, [], _∷_, foldl, flatten}
 use native.Mathlib.Omega.{arith}
 use lib.ListN.{length, take, length-append}
 use lib.IntN.{ℤ, pos, negsuc}
@@ -11,20 +12,14 @@ use Rattle.formula.specs.ScanIsWordsIn.{failed-stays, scan-is-words-in, 
 use Rattle.formula.specs.Scanning.{scanStateOf}
 use Rattle.formula.specs.Lines.{inputLine}
 use Rattle.formula.specs.Program.{Prints, no-words, answered}
-use Rattle.formula.specs.Reading.{afterReads, ReadingEnds, at-the-end, scan-failed, read-failed, turns-used-up, InputRead}
+use Rattle.formula.specs.Reading.{afterReads, ReadingEnds, at-the-end, scan-failed, read-failed, turns-used-up, PiecesOf}
+use Rattle.formula.specs.Turns.{InputRead}
 use Rattle.formula.specs.ReadingLaws.{pieces-within}
 use Rattle.formula.specs.Responding.{Responds, AnswersInput}
 use Rattle.formula.specs.declared.read.Turn.{Turn}
 
 pub read-and-answered : {words text : List ℕ} {t : Turn} {n : ℕ} → InputRead words t → Responds (scanStateOf words (t .at)) text n → AnswersInput (t .got) text n
 read-and-answered read responds = record { reads = read .reads; responds = rw (read .stands .is) at responds }
-
--- What is left to libc: the pieces are the beginning of that input, no read failed, and one that gave nothing was at its end.
-pub record PiecesOf (input : List ℕ) (pieces : List (List ℕ)) (got : ℤ) : Type 0 where
-  pub rest : List ℕ
-  pub begins : input ≡ flatten pieces ++ rest
-  pub at-its-end : got ≡ pos 0 → rest ≡ []
-  pub none-failed : (k : ℕ) → got ≢ negsuc k
 
 -- That is printed for the whole input, though no more of it is read once its scan has failed.
 pub answers-whole-input : {input text : List ℕ} {got : ℤ} {n : ℕ} (answers : AnswersInput got text n) → PiecesOf input (answers .reads .pieces) got → length input < 18446744073709551616 →

@@ -1,7 +1,8 @@
 // The input, piece by piece, until its end, or until its scan has failed: no further byte would change that.
 //
-// Whatever a read answers and leaves in the piece, the contracts say what becomes of it. No contract says that a read was made, or that
-// it gave the next bytes of the input and answers 0 only at its end: that is left to libc and to the one line that calls it.
+// Whatever a read answers and leaves in the piece, the contracts say what becomes of it. That a read gives the next bytes of the input, and
+// 0 only at its end, is left to libc. No contract can say that a read was made: that what is handed on as a read's answer and piece is
+// one, rests on the first line of `read_piece`, and on that `read_input` makes no turn of its own.
 use crate::scan;
 use libc::STDIN_FILENO;
 use scan::Scanner;
@@ -9,7 +10,7 @@ ghost use Prim.Native.Nat.{_≤_};
 ghost use mathlib.Core.Path.{_≡_};
 ghost use lib.ListN.{length};
 ghost use Rattle.formula.specs.Scanning.{scanStateOf, ScanRoom, Stands};
-ghost use Rattle.formula.specs.Reading.{afterRead, readsOn, PieceRead, InputRead};
+ghost use Rattle.formula.specs.Turns.{afterRead, readsOn, PieceRead, InputRead};
 
 // What the last read answered, and where the scan stands after it.
 pub(crate) struct Turn {

@@ -6,7 +6,8 @@ use scan::Scanner;
 ghost use mathlib.Core.Path.{_≡_};
 ghost use lib.ListN.{length, replicate};
 ghost use Rattle.formula.specs.Scanning.{scanStateOf, ScanRoom};
-ghost use Rattle.formula.specs.Responding.{TwoLinesIn, Responds};
+ghost use Rattle.formula.specs.TwoLinesIn.{TwoLinesIn};
+ghost use Rattle.formula.specs.Responding.{Responds};
 
 fn work() -> [u32; 12304]
     ensures { λ r. ⌜ r ≡ replicate 12304 0 ⌝ }

@@ -4,7 +4,7 @@ use Prim.Native.Nat.{ℕ}
 use mathlib.Core.Path.{_≡_, refl}
 use mathlib.Core.List.{List, [], _∷_}
 use lib.ListN.{replicate}
-use Rattle.language.specs.WrittenForm.{occurs, appearing, placeIn, spell, wordsOf}
+use Rattle.language.specs.WrittenForm.{isAmong, appearing, placeIn, spell, wordsOf}
 use Rattle.table.specs.Node.{nodeOf, nodeAt}
 use Rattle.table.specs.Refusals.{fitsRule, timesBelow, firstFrom, checkOf}
 use Rattle.equations.specs.Inferred.{inferred}
@@ -14,7 +14,7 @@ use Rattle.inference.specs.declared.Inferred.the-variants.{Typed, Refuse
 
 -- The answer with so many words of work, all 9, and so many of out, all 7. To unfold it is to unfold all that it computes with.
 unfoldable answer : List ℕ → ℕ → ℕ → After
-unfolding textbook checkOf fitsRule timesBelow firstFrom inferred nodeAt nodeOf wordsOf spell appearing placeIn occurs
+unfolding textbook checkOf fitsRule timesBelow firstFrom inferred nodeAt nodeOf wordsOf spell appearing placeIn isAmong
 answer words work out = textbook words (replicate work 9) (replicate out 7)
 
 -- P2: fun x -> x

@@ -12,7 +12,8 @@ use Rattle.table.specs.Accepted.{accepted-is-checked}
 use Rattle.table.specs.declared.Verdict.{Verdict}
 use Rattle.table.specs.declared.Verdict.the-variants.{Accepted, Refused as Turned}
 use Rattle.inference.specs.TableCells.{TableRoom}
-use Rattle.inference.specs.Inference.{workFor, leaves, Infers, turned, InfersWithWork}
+use Rattle.inference.specs.Inference.{workFor, leaves, Infers, turned}
+use Rattle.inference.specs.WithWork.{InfersWithWork}
 use Rattle.inference.specs.declared.Inferred.{Inferred}
 use Rattle.inference.specs.declared.Inferred.the-variants.{Refused}
 

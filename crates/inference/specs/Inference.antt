@@ -64,7 +64,3 @@ pub data Infers (words work out : List ℕ) (a : After) : Type 0 where
   -- 0: the most general type, written.
   typed : {n : ℕ} {τ : Ty} → checkOf words ≡ Accepted n → workFor n ≤ length work → Principal empty (expOf words) τ →
       length (wordsOf τ) ≤ length out → a ≡ leaves (Typed (length (wordsOf τ))) (workCleared n work) (withType (wordsOf τ) out) → Infers words work out a
-
--- The answer to a table of n nodes, whatever work slice of enough words is lent.
-pub record InfersWithWork (words : List ℕ) (n : ℕ) (out : List ℕ) (answer : Inferred) (out′ : List ℕ) : Type 0 where
-  pub given : (work : List ℕ) → workFor n ≤ length work → Infers words work out (leaves answer (workCleared n work) out′)

@@ -9,6 +9,7 @@ pub mod TableCells
 pub mod Grounding
 pub mod Inference
 pub mod Cases
+pub mod WithWork
 pub mod Writing
 -- The words of cells.
 pub mod LayoutLaws

@@ -27,7 +27,8 @@ use Rattle.inference.specs.Grounding.{GroundTested}
 use Rattle.inference.specs.Writing.{TypeWritten, fits, over, CellWritten}
 use Rattle.inference.specs.TableCells.{unknowns, Constants, TableSolved, TableReady, TableRoom}
 use Rattle.inference.specs.TableLaws.{all-satisfied}
-use Rattle.inference.specs.Inference.{no-type, out-short, typed, InfersWithWork}
+use Rattle.inference.specs.Inference.{no-type, out-short, typed}
+use Rattle.inference.specs.WithWork.{InfersWithWork}
 use Rattle.inference.specs.declared.Inferred.{Inferred}
 use Rattle.inference.specs.declared.Inferred.the-variants.{Refused}
 

@@ -18,7 +18,7 @@ use Rattle.language.specs.Numbers.{operatorAt}
 use Rattle.table.specs.Node.{Node, Field, field-a, field-b, field-c, child, nodeOf, nodeAt}
 use Rattle.table.specs.Scope.{nameOf, binderFor, binderOf}
 use Rattle.table.specs.Refusals.{countOf}
-use Rattle.table.specs.Reading.{wordsAt, binderAnswer, binderIn}
+use Rattle.table.specs.Asked.{wordsAt, binderAnswer, binderIn}
 use Rattle.table.specs.NodeLaws.{reads-as}
 use Rattle.table.specs.Lookup.{found-below}
 use Rattle.table.specs.declared.NodeWords.{NodeWords}

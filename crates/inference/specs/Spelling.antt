@@ -11,7 +11,7 @@ use lib.ListN.{length, length-append}
 use borrow.Author.Tests.{eq-eqb, ne-eqb}
 use Rattle.language.specs.Ty.{Ty, unit, bool, int, _⇒_, var}
 use Rattle.language.specs.Unification.{size}
-use Rattle.language.specs.WrittenForm.{occurs, appearing, placeIn, spell}
+use Rattle.language.specs.WrittenForm.{isAmong, appearing, placeIn, spell}
 use Rattle.inference.specs.Writing.{numberIn, wordsAfter}
 
 -- ---- Lengths
@@ -45,8 +45,8 @@ orElse zero k = k
 orElse (suc n) k = suc n
 
 number-cons : (γ : ℕ) (seen : List ℕ) (α : ℕ) → numberIn (γ ∷ seen) α ≡ cond (eqb α γ) 1 (further (numberIn seen α))
-unfolding numberIn occurs placeIn
-number-cons γ seen α = go (eqb α γ) (occurs α seen)
+unfolding numberIn isAmong placeIn
+number-cons γ seen α = go (eqb α γ) (isAmong α seen)
   where
     go : (here later : Bool) → cond (here || later) (suc (cond here 0 (suc (placeIn seen α)))) 0 ≡ cond here 1 (further (cond later (suc (placeIn seen α)) 0))
     go true later = refl
@@ -59,7 +59,7 @@ further-else zero k false = refl
 further-else (suc n) k t = refl
 
 number-append : (seen : List ℕ) (α β : ℕ) → numberIn (seen ++ β ∷ []) α ≡ orElse (numberIn seen α) (cond (eqb α β) (suc (length seen)) 0)
-unfolding numberIn occurs placeIn
+unfolding numberIn isAmong placeIn
 number-append [] α β = number-cons β [] α
 number-append (γ ∷ seen) α β = rw (number-cons γ (seen ++ β ∷ []) α, number-cons γ seen α, number-append seen α β) (go (eqb α γ))
   where
@@ -76,7 +76,7 @@ number-other seen {α} {β} n = rw (number-append seen α β, ne-eqb α β) (els
 
 place-is : (seen : List ℕ) (α : ℕ) {k : ℕ} → numberIn seen α ≡ suc k → placeIn seen α ≡ k
 unfolding numberIn
-place-is seen α {k} e = go (occurs α seen) e
+place-is seen α {k} e = go (isAmong α seen) e
   where
     go : (t : Bool) → cond t (suc (placeIn seen α)) 0 ≡ suc k → placeIn seen α ≡ k
     go true h = cc
@@ -87,7 +87,7 @@ place-is seen α {k} e = go (occurs α seen) e
 module _ (seen : List ℕ) (α : ℕ) (new : numberIn seen α ≡ 0) where
   pub appearing-new : appearing seen (var α) ≡ seen ++ α ∷ []
   unfolding appearing numberIn
-  appearing-new = go (occurs α seen) new
+  appearing-new = go (isAmong α seen) new
     where
       go : (t : Bool) → cond t (suc (placeIn seen α)) 0 ≡ 0 → cond t seen (seen ++ α ∷ []) ≡ seen ++ α ∷ []
       go true h = absurd (omega arith)
@@ -105,7 +105,7 @@ module _ (seen : List ℕ) (α : ℕ) (new : numberIn seen α ≡ 0) where
 module _ (seen : List ℕ) (α : ℕ) {k : ℕ} (old : numberIn seen α ≡ suc k) where
   pub appearing-old : appearing seen (var α) ≡ seen
   unfolding appearing numberIn
-  appearing-old = go (occurs α seen) old
+  appearing-old = go (isAmong α seen) old
     where
       go : (t : Bool) → cond t (suc (placeIn seen α)) 0 ≡ suc k → cond t seen (seen ++ α ∷ []) ≡ seen
       go true h = refl
@@ -127,7 +127,7 @@ number-kept seen unit α k old = old
 number-kept seen bool α k old = old
 number-kept seen int α k old = old
 number-kept seen (τ₁ ⇒ τ₂) α k old = number-kept (appearing seen τ₁) τ₂ α k (number-kept seen τ₁ α k old)
-number-kept seen (var β) α k old = go (occurs β seen)
+number-kept seen (var β) α k old = go (isAmong β seen)
   where
     go : (t : Bool) → numberIn (cond t seen (seen ++ β ∷ [])) α ≡ suc k
     go true = old

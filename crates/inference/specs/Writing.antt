@@ -9,7 +9,7 @@ use lib.ListN.{length}
 use lib.Seq.{sets}
 use Rattle.language.specs.Ty.{Ty}
 use Rattle.language.specs.Unification.{size}
-use Rattle.language.specs.WrittenForm.{occurs, appearing, placeIn, spell, wordsOf}
+use Rattle.language.specs.WrittenForm.{isAmong, appearing, placeIn, spell, wordsOf}
 use Rattle.equations.specs.Cells.{Ev}
 use Rattle.inference.specs.Layout.{cellAt, pairAt, cellsIn, storeOf, Sound}
 use Rattle.inference.specs.Count.{count}
@@ -49,7 +49,7 @@ pub record Measured (cells : List ℕ) (i room left : ℕ) : Type 0 where
 
 -- Variables that were seen have their place plus one, all others have 0.
 unfoldable pub numberIn : List ℕ → ℕ → ℕ
-numberIn seen α = cond (occurs α seen) (suc (placeIn seen α)) 0
+numberIn seen α = cond (isAmong α seen) (suc (placeIn seen α)) 0
 
 -- Those numbers stand beside the cells.
 pub record Numbers (cells : List ℕ) (numbered : ℕ) (seen : List ℕ) : Type 0 where

@@ -12,7 +12,7 @@ use lib.Seq.{sets, sets-eq, drop-length, length-take-le}
 use borrow.Author.Tests.{ne-eqb}
 use Rattle.language.specs.Ty.{Ty, _⇒_, var}
 use Rattle.language.specs.Unification.{size}
-use Rattle.language.specs.WrittenForm.{occurs, appearing, spell, wordsOf}
+use Rattle.language.specs.WrittenForm.{isAmong, appearing, spell, wordsOf}
 use Rattle.equations.specs.Cells.{Ev}
 use Rattle.equations.specs.Grounded.{ev-at}
 use Rattle.inference.specs.Layout.{cellAt, pairAt, cellsIn, storeOf, Sound, PairPut}
@@ -192,7 +192,7 @@ module _ {cells : List ℕ} (none : (j : ℕ) → pairAt cells j .right ≡ 0) w
   }
 
   none-seen : Numbers cells 0 []
-  unfolding numberIn occurs
+  unfolding numberIn isAmong
   none-seen = record { beside = none; as-many = refl }
 
   pub all-written : (out : List ℕ) {i left count : ℕ} {cells′ part : List ℕ} {rest : Rest} → left ≢ 0 → count + left ≡ length out + 1 →

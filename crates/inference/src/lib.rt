@@ -10,7 +10,8 @@ ghost use mathlib.Core.Path.{_≡_};
 ghost use Rattle.table.specs.Refusals.{checkOf};
 ghost use Rattle.table.specs.declared.Verdict.the-variants.{Accepted};
 ghost use Rattle.inference.specs.TableCells.{TableReady, TableRoom};
-ghost use Rattle.inference.specs.Inference.{leaves, Infers, InfersWithWork};
+ghost use Rattle.inference.specs.Inference.{leaves, Infers};
+ghost use Rattle.inference.specs.WithWork.{InfersWithWork};
 ghost use Rattle.inference.specs.InferCall.{handedUp};
 
 // What inference of a table answers.

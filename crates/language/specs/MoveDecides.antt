@@ -8,7 +8,7 @@ use lib.IntN.{ℤ}
 use Rattle.language.specs.Expression.{Operator, Exp, Value, unit-element, boolean, integer, operator, constant, name, app, if-then-else, lambda, let-in, rec, constant-value, lambda-value, operator-value}
 use Rattle.language.specs.Integers.{Exception}
 use Rattle.language.specs.SmallStep.{Result, next, raised, Step, OP, BETA-V, APP-LEFT, APP-LEFT-EXN, APP-RIGHT, APP-RIGHT-EXN, COND-EVAL, COND-EVAL-EXN, COND-TRUE, COND-FALSE, LET-EVAL, LET-EVAL-EXN, LET-EXEC, UNFOLD, Stuck}
-use Rattle.language.specs.Move.{Move, steps, value, stuck, within, asFunction, asInteger, combined, applied, chooses, move}
+use Rattle.language.specs.Move.{Move, steps, value, stuck, within, asFunction, asInteger, combined, appliedAs, chooses, move}
 
 -- What a move says of an expression.
 abbrev pub Decided : Exp → Move → Type 0
@@ -79,7 +79,7 @@ operator-found o reads-integer reads-integer = OP refl
 operator-found o reads-integer reads-none = tt
 operator-found o reads-none i = tt
 
-application-found : {v w : Exp} → Value v → Value w → Found (app v w) (applied (asFunction v) w)
+application-found : {v w : Exp} → Value v → Value w → Found (app v w) (appliedAs (asFunction v) w)
 unfolding asFunction
 application-found {v = constant unit-element} constant-value w = tt
 application-found {v = constant (boolean b)} constant-value w = tt

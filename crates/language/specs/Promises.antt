@@ -1,11 +1,13 @@
 -- What is proved of L2, in one place. Each promise is restated here over the definitions alone; the file that proves it is the one that
 -- its proof cites.
+use Prim.Native.Nat.{_<_}
 use mathlib.Core.Path.{_≡_}
 use mathlib.Core.Logic.{_↔_, _⊎_}
 use mathlib.Core.Bool.{true}
 use mathlib.Core.List.{List}
-use lib.IntN.{ℤ}
-use Rattle.language.specs.Expression.{Name, Operator, integer, Exp, constant, Value, Free, Closed}
+use lib.IntN.{ℤ, pos, natAbs, _+ℤ_, _*ℤ_}
+use lib.Signed.{nonNeg}
+use Rattle.language.specs.Expression.{Name, Operator, divide, modulo, integer, Exp, constant, Value, Free, Closed}
 use Rattle.language.specs.Integers.{number, inRange, meaning}
 use Rattle.language.specs.Substitution.{sub}
 use Rattle.language.specs.FinalSubstitution.{FinalSub}
@@ -60,6 +62,11 @@ move-decides-values e = (MoveDecides.move-is-value e, MoveDecides.value-is-move)
 
 move-decides-stuck : (e : Exp) → (move e ≡ stuck) ↔ Stuck e
 move-decides-stuck e = (MoveDecides.move-is-stuck e, MoveDecides.stuck-is-move)
+
+-- dividend = quotient × divisor + mod, where mod is smaller than the divisor and 0 or of the dividend's sign.
+division-and-mod : (m n : ℤ) {q r : ℤ} → meaning divide m n ≡ number q → meaning modulo m n ≡ number r →
+    (q *ℤ n +ℤ r ≡ m) × (natAbs r < natAbs n) × ((r ≡ pos 0) ⊎ (nonNeg r ≡ nonNeg m))
+division-and-mod = IntegerLaws.division-and-mod
 
 -- Numbers that are computed from numbers in range are in range.
 meaning-in-range : (o : Operator) (m n : ℤ) {z : ℤ} → inRange m ≡ true → inRange n ≡ true → meaning o m n ≡ number z → inRange z ≡ true

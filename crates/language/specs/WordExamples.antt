@@ -7,7 +7,7 @@ use lib.IntN.{ℤ, pos, negsuc}
 use Rattle.language.specs.Integers.{Outcome, number, truth, meaning}
 use Rattle.language.specs.Numbers.{operators, operatorAt, signed, pattern}
 use Rattle.language.specs.Ty.{unit, bool, int, _⇒_, var}
-use Rattle.language.specs.WrittenForm.{occurs, appearing, placeIn, spell, wordsOf}
+use Rattle.language.specs.WrittenForm.{isAmong, appearing, placeIn, spell, wordsOf}
 
 abbrev results : ℤ → ℤ → List Outcome
 results m n = map (λ o. meaning o m n) operators
@@ -34,5 +34,5 @@ patterns = (refl, refl)
 -- (α → β → unit) → β → bool → int → α, whatever the numbers of α and β.
 type-words : wordsOf ((var 7 ⇒ var 3 ⇒ unit) ⇒ var 3 ⇒ bool ⇒ int ⇒ var 7) ≡
     4 ∷ 4 ∷ 16 ∷ 4 ∷ 17 ∷ 1 ∷ 4 ∷ 17 ∷ 4 ∷ 2 ∷ 4 ∷ 3 ∷ 16 ∷ []
-unfolding wordsOf spell appearing placeIn occurs
+unfolding wordsOf spell appearing placeIn isAmong
 type-words = refl

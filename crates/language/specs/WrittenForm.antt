@@ -9,9 +9,9 @@ use Rattle.language.specs.Ty.{Ty, unit, bool, int, _⇒_, var, apply}
 
 -- ---- Numbering
 
-unfoldable pub occurs : ℕ → List ℕ → Bool
-occurs α [] = false
-occurs α (β ∷ βs) = eqb α β || occurs α βs
+unfoldable pub isAmong : ℕ → List ℕ → Bool
+isAmong α [] = false
+isAmong α (β ∷ βs) = eqb α β || isAmong α βs
 
 -- The variables of a type by first appearance, after those that appeared before it.
 unfoldable pub appearing : List ℕ → Ty → List ℕ
@@ -19,7 +19,7 @@ appearing before unit = before
 appearing before bool = before
 appearing before int = before
 appearing before (τ₁ ⇒ τ₂) = appearing (appearing before τ₁) τ₂
-appearing before (var α) = cond (occurs α before) before (before ++ α ∷ [])
+appearing before (var α) = cond (isAmong α before) before (before ++ α ∷ [])
 
 -- The place of a variable in that order.
 unfoldable pub placeIn : List ℕ → ℕ → ℕ

@@ -15,7 +15,7 @@ use Rattle.language.specs.Environment.{Env}
 use Rattle.language.specs.Ty.{Ty, unit, bool, int, _⇒_, var, Subst, apply, Instance}
 use Rattle.language.specs.TyLaws.{apply-compose}
 use Rattle.language.specs.Principal.{Principal}
-use Rattle.language.specs.WrittenForm.{occurs, appearing, placeIn, spell, wordsOf, Renamed}
+use Rattle.language.specs.WrittenForm.{isAmong, appearing, placeIn, spell, wordsOf, Renamed}
 
 clash : {A : Type 0} → _≡_ {A = ℕ} 0 1 → A
 clash e = absurd (omega arith)
@@ -65,10 +65,10 @@ module _ {s s′ : Subst} where
       go (yes p) (no q) = absurd (q (cc))
       go (no p) (yes q) = absurd (p (cc))
 
-  occurs-exchanged : {α β : ℕ} {αs βs : List ℕ} → Exchanged s s′ α β → ExchangedAll s s′ αs βs → occurs α αs ≡ occurs β βs
-  unfolding occurs
-  occurs-exchanged x none = refl
-  occurs-exchanged x (also y ys) = rw (exchanged-eqb x y, occurs-exchanged x ys)
+  among-exchanged : {α β : ℕ} {αs βs : List ℕ} → Exchanged s s′ α β → ExchangedAll s s′ αs βs → isAmong α αs ≡ isAmong β βs
+  unfolding isAmong
+  among-exchanged x none = refl
+  among-exchanged x (also y ys) = rw (exchanged-eqb x y, among-exchanged x ys)
 
   place-exchanged : {α β : ℕ} {αs βs : List ℕ} → Exchanged s s′ α β → ExchangedAll s s′ αs βs → placeIn αs α ≡ placeIn βs β
   unfolding placeIn
@@ -85,7 +85,7 @@ module _ {s s′ : Subst} where
   appearing-exchanged xs bools = xs
   appearing-exchanged xs ints = xs
   appearing-exchanged xs (arrows x₁ x₂) = appearing-exchanged (appearing-exchanged xs x₁) x₂
-  appearing-exchanged {αs} {βs} xs (vars {α} {β} x) = rw (occurs-exchanged x xs) (go (occurs β βs))
+  appearing-exchanged {αs} {βs} xs (vars {α} {β} x) = rw (among-exchanged x xs) (go (isAmong β βs))
     where
       go : (t : Bool) → ExchangedAll s s′ (cond t αs (αs ++ α ∷ [])) (cond t βs (βs ++ β ∷ []))
       go true = xs
@@ -132,39 +132,39 @@ read-spell f (var α) ws =
     let k : 16 + f α - 16 ≡ f α = omega arith in
     rw (List·getD-eq-default, k)
 
-occurs-append : (α : ℕ) (βs γs : List ℕ) → occurs α (βs ++ γs) ≡ (occurs α βs || occurs α γs)
-unfolding occurs
-occurs-append α [] γs = refl
-occurs-append α (β ∷ βs) γs = rw (occurs-append α βs γs, or-assoc)
+among-append : (α : ℕ) (βs γs : List ℕ) → isAmong α (βs ++ γs) ≡ (isAmong α βs || isAmong α γs)
+unfolding isAmong
+among-append α [] γs = refl
+among-append α (β ∷ βs) γs = rw (among-append α βs γs, or-assoc)
 
 -- A variable that appeared stays in the list.
-stays : (α : ℕ) (before : List ℕ) (τ : Ty) → occurs α before ≡ true → occurs α (appearing before τ) ≡ true
+stays : (α : ℕ) (before : List ℕ) (τ : Ty) → isAmong α before ≡ true → isAmong α (appearing before τ) ≡ true
 unfolding appearing
 stays α before unit h = h
 stays α before bool h = h
 stays α before int h = h
 stays α before (τ₁ ⇒ τ₂) h = stays α (appearing before τ₁) τ₂ (stays α before τ₁ h)
-stays α before (var β) h = go (occurs β before)
+stays α before (var β) h = go (isAmong β before)
   where
-    go : (t : Bool) → occurs α (cond t before (before ++ β ∷ [])) ≡ true
+    go : (t : Bool) → isAmong α (cond t before (before ++ β ∷ [])) ≡ true
     go true = h
-    go false = rw (occurs-append, h)
+    go false = rw (among-append, h)
 
-appears : (α : ℕ) (before : List ℕ) → occurs α (appearing before (var α)) ≡ true
-unfolding appearing occurs
-appears α before = go (occurs α before) refl
+appears : (α : ℕ) (before : List ℕ) → isAmong α (appearing before (var α)) ≡ true
+unfolding appearing isAmong
+appears α before = go (isAmong α before) refl
   where
-    go : (t : Bool) → occurs α before ≡ t → occurs α (cond t before (before ++ α ∷ [])) ≡ true
+    go : (t : Bool) → isAmong α before ≡ t → isAmong α (cond t before (before ++ α ∷ [])) ≡ true
     go true e = e
-    go false e = rw (occurs-append, e, eq-eqb α α refl)
+    go false e = rw (among-append, e, eq-eqb α α refl)
 
 -- The place of a variable is where the list has it.
-at-place : (α : ℕ) (βs : List ℕ) → occurs α βs ≡ true → getD βs (placeIn βs α) 0 ≡ α
-unfolding occurs placeIn
+at-place : (α : ℕ) (βs : List ℕ) → isAmong α βs ≡ true → getD βs (placeIn βs α) 0 ≡ α
+unfolding isAmong placeIn
 at-place α [] h = clash (cc)
 at-place α (β ∷ βs) h = go (eqb α β) refl h (at-place α βs)
   where
-    go : (t : Bool) → eqb α β ≡ t → (t || occurs α βs) ≡ true → (occurs α βs ≡ true → getD βs (placeIn βs α) 0 ≡ α) → getD (β ∷ βs) (cond t 0 (suc (placeIn βs α))) 0 ≡ α
+    go : (t : Bool) → eqb α β ≡ t → (t || isAmong α βs) ≡ true → (isAmong α βs ≡ true → getD βs (placeIn βs α) 0 ≡ α) → getD (β ∷ βs) (cond t 0 (suc (placeIn βs α))) 0 ≡ α
     go true e h later = sym (eqb-true α β e)
     go false e h later = later h
 
@@ -175,7 +175,7 @@ abbrev named : List ℕ → Subst
 named βs k = var (getD βs k 0)
 
 -- A list with all variables of a type turns their places back into them.
-named-numbered : (βs before : List ℕ) (τ : Ty) → ((α : ℕ) → occurs α (appearing before τ) ≡ true → occurs α βs ≡ true) → apply (named βs) (apply (numbered βs) τ) ≡ τ
+named-numbered : (βs before : List ℕ) (τ : Ty) → ((α : ℕ) → isAmong α (appearing before τ) ≡ true → isAmong α βs ≡ true) → apply (named βs) (apply (numbered βs) τ) ≡ τ
 unfolding apply appearing
 named-numbered βs before unit h = refl
 named-numbered βs before bool h = refl

@@ -1,10 +1,10 @@
 -- The smaller of two numbers.
-use Prim.Native.Nat.{ℕ, _≤_}
+use Prim.Native.Nat.{ℕ, _≤_, _<_}
 use mathlib.Core.Path.{_≡_, refl}
 use mathlib.Core.Bool.{Bool, true, false, cond}
 use native.Mathlib.Omega.{arith}
 use lib.Dec.{ltb}
-use borrow.Author.Tests.{ltb-true, ltb-false}
+use borrow.Author.Tests.{ltb-true, ltb-false, lt-ltb, le-ltb}
 
 abbrev pub smaller : ℕ → ℕ → ℕ
 smaller a b = cond (ltb a b) a b
@@ -24,3 +24,9 @@ smaller-second a b = go (ltb a b) refl
         let below = ltb-true a b e in
         omega arith
     go false e = omega arith
+
+pub first-is-smaller : (a b : ℕ) → a < b → a ≡ smaller a b
+first-is-smaller a b less = rw (lt-ltb a b less)
+
+pub second-is-smaller : (a b : ℕ) → b ≤ a → b ≡ smaller a b
+second-is-smaller a b less = rw (le-ltb a b less)

@@ -43,7 +43,7 @@ data Integral : Value → Exp → Type 0 where
   other : {v : Value} {w : Exp} → asInteger w ≡ none → ((o : Operator) → withFirst o v ≡ operator-with-other o) →
       ((o : Operator) (m : ℤ) (k : ℕ) (frames : List Frame) → completed o m v k frames ≡ at-end (stuck-at k)) → Integral v w
 
-stuck-application : {f w : Exp} → L2.Value f → L2.Value w → Moves.applied (asFunction f) w ≡ stuck → Small.Stuck (app f w)
+stuck-application : {f w : Exp} → L2.Value f → L2.Value w → Moves.appliedAs (asFunction f) w ≡ stuck → Small.Stuck (app f w)
 unfolding move
 stuck-application {f} {w} function value p = move-is-stuck (app f w) (rw (value-is-move function, value-is-move value) p)
 

@@ -10,6 +10,7 @@ pub mod Refusals
 pub mod RefusedFor
 pub mod ExpressionOf
 pub mod Tree
+pub mod Asked
 pub mod Reading
 pub mod WordsOf32Bits
 -- A checked table as a tree.

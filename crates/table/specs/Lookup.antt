@@ -10,7 +10,8 @@ use Rattle.table.specs.Node.{Nodes, Field, nodeAt}
 use Rattle.table.specs.Walk.{fieldHolding, climbFrom, atParent}
 use Rattle.table.specs.Scope.{bindsIn, enter, isNamed, firstNamed}
 use Rattle.table.specs.Refusals.{isSome, unbound}
-use Rattle.table.specs.Reading.{wordsAt, nodeFrom, metAs, metIn, met, walkedAs, walked, foundBelow}
+use Rattle.table.specs.Asked.{wordsAt}
+use Rattle.table.specs.Reading.{nodeFrom, metAs, metIn, met, walkedAs, walked, foundBelow}
 use Rattle.table.specs.NodeLaws.{read-name, read-no-name}
 use Rattle.table.specs.declared.NodeWords.{NodeWords}
 use Rattle.table.specs.declared.binders.Met.{Met}

@@ -12,7 +12,8 @@ use Rattle.language.specs.Expression.{Constant, Name}
 use Rattle.table.specs.Node.{Node, constant-node, name-node, application-node, if-node, lambda-node, let-node, rec-node, Field, field-a, field-b, field-c, wordAt, nodeOf, nodeAt}
 use Rattle.table.specs.Scope.{bindsIn, isNamed, nameOf}
 use Rattle.table.specs.Refusals.{once, timesIn}
-use Rattle.table.specs.Reading.{wordsAt, nodeIn, childrenIn, nodeFrom, metIn, met, aboveIf, bindingIf, letMet}
+use Rattle.table.specs.Asked.{wordsAt}
+use Rattle.table.specs.Reading.{nodeIn, childrenIn, nodeFrom, metIn, met, aboveIf, bindingIf, letMet}
 use Rattle.table.specs.declared.NodeWords.{NodeWords}
 use Rattle.table.specs.declared.binders.Met.{Met}
 use Rattle.table.specs.declared.binders.Met.the-variants.{Elsewhere, Above}

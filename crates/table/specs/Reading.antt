@@ -1,32 +1,21 @@
 -- The table as the code reads it: a node in four words, and what a walk sees of it.
 use Prim.Native.Nat.{ℕ, zero, suc, _+_, _*_}
-use mathlib.Core.Bool.{Bool, true, false, not, cond, _&&_}
+use mathlib.Core.Bool.{Bool, true, false, not, _&&_}
 use mathlib.Core.List.{List, []}
 use mathlib.Core.Option.{Option, none, some}
-use lib.Dec.{eqb, ltb}
+use lib.Dec.{eqb}
 use Rattle.language.specs.Expression.{Name}
-use Rattle.table.specs.Node.{Node, Nodes, Field, field-a, field-b, field-c, child, wordAt, nodeOf, nodeAt}
+use Rattle.table.specs.Node.{Node, Nodes, Field, field-a, field-b, field-c, child, wordAt, nodeOf}
 use Rattle.table.specs.Walk.{fieldHolding, climbFrom}
-use Rattle.table.specs.Scope.{bindsIn, enter, isNamed, firstNamed, binderOf}
-use Rattle.table.specs.Refusals.{countOf, once, timesBelow, isSome}
+use Rattle.table.specs.Scope.{bindsIn, enter, isNamed, firstNamed}
+use Rattle.table.specs.Refusals.{once, timesBelow, isSome}
 use Rattle.table.specs.declared.NodeWords.{NodeWords}
 use Rattle.table.specs.declared.binders.Met.{Met}
 use Rattle.table.specs.declared.binders.Met.the-variants.{Elsewhere, Above, Binding}
 use Rattle.table.specs.declared.binders.Walked.{Walked}
 use Rattle.table.specs.declared.binders.Walked.the-variants.{Binder, On}
-use Rattle.table.specs.declared.Bound.{Bound}
-use Rattle.table.specs.declared.Bound.the-variants.{At, Nowhere}
 
 -- ---- A node
-
-abbrev pub wordsAt : List ℕ → ℕ → NodeWords
-wordsAt words k =
-    record {
-      kind = wordAt words (4 * k);
-      a = wordAt words (4 * k + 1);
-      b = wordAt words (4 * k + 2);
-      c = wordAt words (4 * k + 3);
-    }
 
 abbrev pub nodeIn : NodeWords → Node
 nodeIn w = nodeOf (w .kind) (w .a) (w .b) (w .c)
@@ -82,14 +71,6 @@ letMet false body named = bindingIf body named
 -- What the walk from `current` finds among the nodes below p.
 abbrev pub foundBelow : Nodes → Name → ℕ → ℕ → Option ℕ
 foundBelow nd x current p = firstNamed nd x (climbFrom [] (enter nd) nd current p)
-
-abbrev pub binderAnswer : Option ℕ → Bound
-binderAnswer none = Nowhere
-binderAnswer (some b) = At b
-
--- The binder of node k of a table. A node that is no name or is not there has none.
-abbrev pub binderIn : List ℕ → ℕ → Bound
-binderIn words k = binderAnswer (cond (ltb k (countOf words)) (binderOf (nodeAt words) k) none)
 
 -- ---- Children
 

@@ -10,7 +10,8 @@ ghost use lib.ListN.{length};
 ghost use Rattle.table.specs.Node.{wordAt, nodeAt};
 ghost use Rattle.table.specs.Scope.{scope, firstNamed};
 ghost use Rattle.table.specs.Refusals.{unbound, firstFrom, refuseAt};
-ghost use Rattle.table.specs.Reading.{nodeFrom, metAs, aboveIf, bindingIf, letMet, met, binderAnswer, binderIn, walked};
+ghost use Rattle.table.specs.Asked.{binderAnswer, binderIn};
+ghost use Rattle.table.specs.Reading.{nodeFrom, metAs, aboveIf, bindingIf, letMet, met, walked};
 ghost use Rattle.table.specs.NodeLaws.{Passed};
 
 // A node that the walk in search of a binder meets.

@@ -4,7 +4,7 @@ ghost use Prim.Native.Nat.{_+_, _*_, _≤_};
 ghost use mathlib.Core.Path.{_≡_};
 ghost use lib.ListN.{length};
 ghost use Rattle.table.specs.Node.{wordAt};
-ghost use Rattle.table.specs.Reading.{wordsAt};
+ghost use Rattle.table.specs.Asked.{wordsAt};
 
 pub(crate) fn node_at(words: &[u32], k: u32) -> NodeWords
     requires { ⌜ 4 * k + 4 ≤ length (now words) ⌝ }

@@ -21,12 +21,12 @@ pub(crate) fn fill(store: &mut [u32], first: u32) {
     }
 }
 
-// One digit more at the end of a number to the base 1000003, modulo the prime 4294967291.
+// One digit more at the end of a number to the base 1000003, modulo the prime 4294967311.
 fn with_digit(total: u64, word: u32) -> u64
-    requires { ⌜ total < 4294967291 ⌝ }
-    ensures { λ r. ⌜ r < 4294967291 ⌝ }
+    requires { ⌜ total < 4294967311 ⌝ }
+    ensures { λ r. ⌜ r < 4294967311 ⌝ }
 {
-    (total * 1000003 + word as u64) % 4294967291
+    (total * 1000003 + word as u64) % 4294967311
 }
 
 // The number that has the words of a slice as its digits.

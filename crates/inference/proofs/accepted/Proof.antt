@@ -1,5 +1,6 @@
 -- `inference::accepted` meets its contract: the words of the cells are lent first, then all that are to be zero.
 use mathlib.Core.Path.{refl, sym}
+use native.Mathlib.Omega.{arith}
 use Rattle.inference.specs.Inference.{work-short}
 use Rattle.inference.specs.InferCall.{cells-within, cells-lent, room-for-cells, work-lent, answered}
 use borrow.Author.Needs.{needs}
@@ -13,7 +14,7 @@ add-size : tie.Need-add-size
 add-size c = search needs
 
 returns : tie.Need-returns
-returns c = work-short (c .before .before .before .before .pre) (c .if1 .taken) refl
+returns c = work-short (c .before .before .before .before .pre) (omega (arith, c .if1 .taken)) refl
 
 mul-cells : tie.Need-mul-cells
 mul-cells c = search needs
@@ -27,7 +28,7 @@ mul-cells-2 c = search needs
 slice-relend-prefix-in-cells : tie.Need-slice-relend-prefix-in-cells
 slice-relend-prefix-in-cells c =
     let call = c .before .before .before .before in
-    cells-within (call .args .words .now) (call .args .n) (call .pre) (call .args .work .now) (c .if1 .left)
+    cells-within (call .args .words .now) (call .args .n) (call .pre) (call .args .work .now) (omega (arith, c .if1 .left))
 
 slice-aggregate-in-cells : tie.Need-slice-aggregate-in-cells
 slice-aggregate-in-cells c =

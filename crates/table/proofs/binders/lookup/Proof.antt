@@ -3,7 +3,7 @@
 use mathlib.Core.Path.{sym, ap}
 use native.Mathlib.Omega.{arith}
 use Rattle.table.specs.Lookup.{Walking, walk-starts, walk-goes-on, walk-finds, walk-ends}
-use Rattle.table.specs.Reading.{binderAnswer}
+use Rattle.table.specs.Asked.{binderAnswer}
 use Rattle.table.proofs.binders.lookup.Statement.{statement}
 use Rattle.table.proofs.binders.lookup.Tie as tie
 

@@ -6,7 +6,7 @@ use Rattle.trials.proofs.stores.sum.Statement.{statement}
 use Rattle.trials.proofs.stores.sum.Tie as tie
 
 abbrev Inv-loop : tie.InvT-loop
-Inv-loop store total₀ i₀ total i = total < 4294967291
+Inv-loop store total₀ i₀ total i = total < 4294967311
 
 abbrev μ-loop : tie.MeasureT-loop
 μ-loop store total₀ i₀ total i = length store - i
