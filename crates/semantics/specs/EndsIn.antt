@@ -1,12 +1,8 @@
 -- Runs without limits: from a state the machine comes to an end, after so many steps and bindings.
 use Prim.Native.Nat.{ℕ, suc, _+_}
 use mathlib.Core.Path.{_≡_}
+use Rattle.semantics.specs.ComesTo.{bindingsFor}
 use Rattle.semantics.specs.Limits.{Need, nothing, a-binding, a-frame, Next, at-end, last-step, steps-to}
-
-abbrev pub bindingsFor : Need → ℕ
-bindingsFor nothing = 0
-bindingsFor a-binding = 1
-bindingsFor a-frame = 0
 
 abbrev pub framesFor : Need → ℕ
 framesFor nothing = 0

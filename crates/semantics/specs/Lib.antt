@@ -7,10 +7,11 @@ pub mod Answer
 pub mod SmallEnd
 pub mod StuckNodes
 pub mod Reached
-pub mod StopsFor
+pub mod ComesTo
 -- Fuel and room, for any machine.
 pub mod EndsIn
 pub mod LimitsLaws
+pub mod StopsFor
 pub mod StopsForLaws
 -- The codes of answers, and runs that name a limit.
 pub mod AnswerCodes

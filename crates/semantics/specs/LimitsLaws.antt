@@ -9,7 +9,8 @@ use native.Mathlib.Omega.{arith}
 use borrow.Author.Tests.{lt-ltb, ltb-true}
 use lib.Dec.{ltb}
 use Rattle.semantics.specs.Limits.{Need, nothing, a-binding, a-frame, Next, at-end, last-step, steps-to, Limit, fuel-limit, binding-limit, frame-limit, How, ended, ran-out, Course, Room, ran, ifFree, withoutFuel, withFuel, runFrom, run, AtLeast}
-use Rattle.semantics.specs.EndsIn.{bindingsFor, EndsIn, here, by-last-step, later}
+use Rattle.semantics.specs.ComesTo.{bindingsFor}
+use Rattle.semantics.specs.EndsIn.{EndsIn, here, by-last-step, later}
 
 with-counts : {E : Type 0} {r : Course E} {h : How E} {n n′ m m′ : ℕ} → r ≡ ran h n m → (n ≡ n′) × (m ≡ m′) → r ≡ ran h n′ m′
 with-counts p q = cc

@@ -1,7 +1,6 @@
 -- What is proved of runs: demand 2's half about them, and demand 3. Everything is said of `runTable`, the run of a table with fuel and
 -- room (`Answer`, `Limits`, `Machine`), and of the small steps of the expression that the table stands for. `Checked words n` says that
--- the check accepts the table; `EndsAs`, `Reached`, `NamesLimit` and `ComesTo` are
--- defined in `SmallEnd`, `Reached` and `StopsFor`.
+-- the check accepts the table; `EndsAs`, `Reached`, `NamesLimit` and `ComesTo` are defined in `SmallEnd`, `Reached` and `ComesTo`.
 use Prim.Native.Nat.{ℕ, _≤_, _<_}
 use mathlib.Core.Path.{_≡_}
 use mathlib.Core.Logic.{_⊎_, _≢_}
@@ -23,7 +22,7 @@ use Rattle.semantics.specs.SmallEnd.{EndsAs}
 use Rattle.semantics.specs.Reached.{NamesLimit, answerFor, Reached}
 use Rattle.semantics.specs.StuckNodes.{ApplicationOrIf}
 use Rattle.semantics.specs.InScope.{InScope}
-use Rattle.semantics.specs.StopsFor.{ComesTo}
+use Rattle.semantics.specs.ComesTo.{ComesTo}
 use Rattle.semantics.specs.StopsForLaws as StopsForLaws
 use Rattle.semantics.specs.LimitMeans as LimitMeans
 use Rattle.semantics.specs.AnswerCodes as AnswerCodes

@@ -7,8 +7,9 @@ use native.Mathlib.Omega.{arith}
 use borrow.Author.Tests.{ltb-true, ltb-false}
 use lib.Dec.{ltb}
 use Rattle.semantics.specs.Limits.{Need, nothing, a-binding, a-frame, Next, at-end, last-step, steps-to, Limit, fuel-limit, binding-limit, frame-limit, ended, ran-out, Course, Room, ran, ifFree, withoutFuel, withFuel, runFrom, run}
-use Rattle.semantics.specs.EndsIn.{bindingsFor, framesFor}
-use Rattle.semantics.specs.StopsFor.{ComesTo, at-first, then-to, fuel-used-up, bindings-full, frames-full, StopsFor}
+use Rattle.semantics.specs.EndsIn.{framesFor}
+use Rattle.semantics.specs.ComesTo.{bindingsFor, ComesTo, at-first, then-to}
+use Rattle.semantics.specs.StopsFor.{fuel-used-up, bindings-full, frames-full, StopsFor}
 
 pub record FrameByFrame {S E : Type 0} (next : S → Next S E) (inUse : S → ℕ) : Type 0 where
   pub adds : {s s′ : S} {need : Need} → next s ≡ steps-to need s′ → inUse s′ ≤ framesFor need + inUse s
