@@ -1,4 +1,4 @@
--- The bench formulas P1 to P12, with what the scope states of each; then a row for each code of a run that none of them gives.
+-- The bench formulas P1 to P12, with what the scope states of each; then rows for 11, 12, 16 at an if, and 19, which none of them gives.
 use Prim.Native.Nat.{ℕ}
 use mathlib.Core.List.{List, [], _∷_}
 use lib.IntN.{pos, negℤ}
