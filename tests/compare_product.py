@@ -6,8 +6,9 @@ usage: compare_product.py PROGRAM FEED HOST [COUNT], a count of 10,000 or more
 
 PROGRAM is crates/formula as it is built; FEED is fed_program.c and HOST guarded_host.c, built. A case is a table as text and as bytes, an
 out length and a fuel. The first cases are chosen; the others are generated from a fixed seed: tables with a type and without, as text
-with any white space and leading zeros, read in pieces of any size; out lengths and fuels at and around their exact limits; and damaged
-words, bytes and text."""
+with any white space and leading zeros, read in pieces of any size; out lengths and fuels at and around their exact limits; formulas
+that need all bindings or all frames, one less or one more; and damaged words, bytes and text."""
+import itertools
 import os
 import random
 import re
@@ -15,13 +16,14 @@ import struct
 import sys
 import zlib
 from collections import Counter
-from functools import lru_cache
+from functools import cached_property, lru_cache
 
 sys.path.insert(0, os.path.dirname(os.path.abspath(__file__)))
 from check_tables import damaged, tree  # noqa: E402
-from compare_runs import BENCH as RUNS, Machine, arithmetic, nodes_of, recursive_sum  # noqa: E402
+from compare_runs import BENCH as RUNS, Formula as Measured, Machine, arithmetic, nodes_of, recursive_sum  # noqa: E402
 from compare_types import BENCH as TYPES, Inference, doubled, just_past, lambdas, table  # noqa: E402
-from formulas import EQUAL, NOTHING, ONE, PLUS, TRUE, ZERO, apply, fun, let, name, operation, rec, running, table_of  # noqa: E402
+from formulas import (EQUAL, NOTHING, ONE, PLUS, TRUE, ZERO, after_bindings, after_frames, apply, fun, let,  # noqa: E402
+                      name, operation, rec, running, table_of)
 from shares import Shares  # noqa: E402
 from trials import lines, output  # noqa: E402
 
@@ -62,8 +64,9 @@ class Formula:
         self.words = words
         self.inference = Inference(words)
         self.nodes = None if self.inference.code else nodes_of(words)
-        # The runs that were made, by their fuel; and one that ended with steps to spare or none, as every run with more fuel does.
-        self.runs, self.ended = {}, None
+        # The runs that were made, by their fuel; and one that ended with steps to spare or none, as every run with more fuel does, with
+        # the most frames that it had at once.
+        self.runs, self.ended, self.most = {}, None, 0
 
     def run(self, fuel):
         """Code, payload, steps and bindings."""
@@ -73,15 +76,26 @@ class Formula:
         if self.ended and self.ended[2] < fuel:
             return self.ended
         if fuel not in self.runs:
-            self.runs[fuel] = Machine(self.nodes, fuel, STORE, STORE).run()
+            machine = Machine(self.nodes, fuel, STORE, STORE)
+            self.runs[fuel] = machine.run()
             if self.runs[fuel][0] != 17:
-                self.ended = self.runs[fuel]
+                self.ended, self.most = self.runs[fuel], machine.most
         return self.runs[fuel]
 
     def need(self):
         """The fuel that a run needs to come to an end, or None."""
         code, _, steps, _ = self.run(FUEL)
         return steps if 10 <= code <= 16 else None
+
+    @cached_property
+    def stores(self):
+        """The bindings and the frames that a run needs, measured where no store is full. None where it does not come to an end with one
+        cell more in both stores than there are."""
+        code, _, _, bindings = self.run(FUEL)
+        if code <= 16:
+            return bindings, self.most
+        ample = Machine(self.nodes, FUEL, STORE + 1, STORE + 1)
+        return (ample.made, ample.most) if ample.run()[0] <= 16 else None
 
     def lines(self):
         code, payload, steps, bindings = self.run(FUEL)
@@ -217,6 +231,21 @@ def some_table(rng, size):
     return damaged(rng, words) if rng.random() < 0.1 else words
 
 
+# A store by its place among a run's needs, the formulas that fill it, and the cells that these need over those that there are. One frame
+# too few comes up most often, since hardly any other run ends for want of a frame.
+FILLED = [(1, after_bindings, over) for over in (-1, 0, 1)] + [(2, after_frames, over) for over in (-1, 0, 1, 1, 1)]
+
+
+def filling(rng, number):
+    """A formula that fills a store; which one, and how far, goes in turn."""
+    store, after, over = FILLED[number % len(FILLED)]
+    needs = None
+    while needs is None:
+        end = running(rng, 1)
+        needs = Measured(table_of(end)).needs
+    return table_of(after(rng, STORE + over - needs[store], end), rng)
+
+
 def some_room(rng, formula):
     exact = 4 * (formula.inference.length or 3)
     room = rng.choice([exact, exact, exact - 1, exact + rng.randrange(4), 0, rng.randrange(exact), 256, 4096, rng.randrange(16384)])
@@ -224,32 +253,40 @@ def some_room(rng, formula):
 
 
 def some_fuel(rng, formula):
+    """Around the steps of a run, or enough; mostly enough where they are many, since less is another run of the second machine."""
     steps = formula.run(FUEL)[2]
-    return rng.choice([steps, max(steps - 1, 0), steps + 1, rng.randrange(steps + 1), FUEL, FUEL, 2 ** 32 - 1])
+    near = [steps, max(steps - 1, 0), steps + 1, rng.randrange(steps + 1)]
+    return rng.choice(near + (1 if steps < STORE else 4) * [FUEL, FUEL, 2 ** 32 - 1])
 
 
-def generated(count):
-    rng = random.Random(50)
-    made = 0
-    while made < count:
-        words = some_table(rng, rng.choice([1, 2, 4, 8, 12, 16, 24, 40] if made % 20 else [100, 300, 512]))
-        if len(words) > 2100:
-            continue
-        formula = Formula(words)
-        # Few of those that go on until a store is full: the second machine takes its time for them.
-        if formula.run(400)[0] == 17 and rng.random() < 0.9:
-            continue
-        for _ in range(4):
-            yield Case(some_text(rng, words), rng.choice([1, 7, 64, 4096, 65536]), some_bytes(rng, words), some_room(rng, formula),
-                       some_fuel(rng, formula), formula)
-            made += 1
+def some_formula(rng, sizes):
+    """Any table as a formula, but few that go on until a store is full: the second machine takes its time for them."""
+    while True:
+        words = some_table(rng, rng.choice(sizes))
+        if len(words) <= 2100:
+            formula = Formula(words)
+            if formula.run(400)[0] != 17 or rng.random() < 0.1:
+                return formula
+
+
+def generated(rng):
+    """Cases without end: several of each formula, and more of one that fills a store, since its runs are long."""
+    for number in itertools.count():
+        fills = number % 25 == 1
+        if fills:
+            formula = Formula(filling(rng, number // 25))
+        else:
+            formula = some_formula(rng, [1, 2, 4, 8, 12, 16, 24, 40] if number % 5 else [100, 300, 512])
+        for _ in range(6 if fills else 4):
+            yield Case(some_text(rng, formula.words), rng.choice([1, 7, 64, 4096, 65536]), some_bytes(rng, formula.words),
+                       some_room(rng, formula), some_fuel(rng, formula), formula)
 
 
 class Met:
     """What the runs are, of the program or of the entry."""
 
     def __init__(self):
-        self.codes, self.over = Counter(), Counter()
+        self.codes, self.over, self.bindings, self.frames = Counter(), Counter(), Counter(), Counter()
         self.accepted = self.long = self.binding = 0
 
     def add(self, formula, fuel):
@@ -260,25 +297,33 @@ class Met:
         self.binding += made >= 1
         if formula.need():
             self.over[fuel - formula.need()] += 1
+        if code != 17 and formula.stores:
+            bindings, frames = formula.stores
+            # What is needed of a store counts where the other one suffices.
+            self.bindings[bindings] += frames <= STORE
+            self.frames[frames] += bindings <= STORE
 
     def demand(self, shares, whose, count):
         shares.demand("accepted by the %s" % whose, self.accepted, count, 1 / 2)
         shares.demand("of these 20 steps or more", self.long, self.accepted, 1 / 2)
         shares.demand("with a binding", self.binding, self.accepted, 1 / 3)
+        for cells in STORE - 1, STORE, STORE + 1:
+            shares.demand("%d bindings" % cells, self.bindings[cells], count, 3 / 1000)
+            shares.demand("%d frames" % cells, self.frames[cells], count, 3 / 1000)
 
 
 def demand(program, entry, types, inputs, count):
     shares = Shares()
     program.demand(shares, "program", count)
     shares.demand("no words", inputs, count, 1 / 1000)
-    # The program's fuel is used up in few of the chosen cases only.
-    shares.demand_codes(program.codes, [code for code in range(10, 20) if code != 17], count, 1 / 1000)
+    # The program's fuel is used up in few of the chosen cases only, since a run of so many steps is too dear for the second machine.
+    shares.demand_codes(program.codes, [code for code in range(10, 20) if code != 17], count, 1 / 100)
     shares.demand_codes(program.codes, [17], 1, 1)
     entry.demand(shares, "entry", count)
     shares.demand("fuel near its need", entry.over[-1] + entry.over[0] + entry.over[1], count, 1 / 10)
     for over, where in (-1, "one below"), (0, "at it"), (1, "one above"):
         shares.demand(where, entry.over[over], count, 1 / 50)
-    shares.demand_codes(entry.codes, range(10, 20), count, 1 / 1000)
+    shares.demand_codes(entry.codes, range(10, 20), count, 1 / 100)
     shares.demand_codes(types, (0, 1, 2, 3, 4, 6, 7), count, 1 / 1000)
     return shares
 
@@ -286,7 +331,7 @@ def demand(program, entry, types, inputs, count):
 def main():
     program, feed, host, count = sys.argv[1], sys.argv[2], sys.argv[3], int(sys.argv[4]) if len(sys.argv) > 4 else 30000
     sys.setrecursionlimit(20000)
-    cases = list(chosen()) + list(generated(count))
+    cases = list(chosen()) + list(itertools.islice(generated(random.Random(50)), count))
     said = output(program, b"".join(case.for_program() for case in cases), preload=feed).decode().split("\0")[:-1]
     entered = lines(host, [case.for_host(seed) for seed, case in enumerate(cases)])
     if len(said) != len(cases):
@@ -305,7 +350,8 @@ def main():
         of_entry.add(case.lent, case.fuel)
         types[case.lent.infer_entry(case.room)[0] & 255] += 1
     shares = demand(of_program, of_entry, types, inputs, len(cases))
-    shares.tell("%d cases agree: types %s; runs %s" % (len(cases), dict(sorted(types.items())), dict(sorted(of_entry.codes.items()))))
+    counts = [dict(sorted(codes.items())) for codes in (types, of_program.codes, of_entry.codes)]
+    shares.tell("%d cases agree: types %s; runs of the program %s; of the entry %s" % (len(cases), *counts))
 
 
 if __name__ == "__main__":

@@ -348,3 +348,52 @@ def running(rng, most=3):
     """A closed expression, with a type or without, that goes up to so many ways until an end."""
     _, ways, end = rng.choices(ENDS, [share for share, _, _ in ENDS])[0]
     return after(rng, {}, lambda env: end(rng, env), ways, rng.randrange(1, most + 1))
+
+
+# ---- Formulas whose run needs a given number of bindings, or of frames at once. The turns of one function take most of them, and what is
+# left over is around its call and around the end. An end is closed here, and what it needs itself comes on top.
+
+def within_bindings(rng, count, names, expression):
+    """The expression after so many bindings of these names, which it does not use: by let, by a call or by rec."""
+    for _ in range(count):
+        x, value = rng.choice(names), some_constant(rng)
+        expression = rng.choice([let(x, value, expression), apply(fun(x, expression), value), rec(x, expression)])
+    return expression
+
+
+def after_bindings(rng, count, end):
+    """let x = .. in (rec f -> fun n -> let x = .. in if <= n 0 then let x = .. in END else f (- n 1)) ..: so many bindings, then END."""
+    f, n, *others = some_names(rng, 4)
+    each = rng.randrange(20, 60)
+    times, left = divmod(count, each)
+    before = rng.randrange(left + 1)
+    body = choose(is_done(n), within_bindings(rng, left - before, others, end), apply(name(f), less_one(n)))
+    # A turn binds f and n as well.
+    function = rec(f, fun(n, within_bindings(rng, each - 2, others, body)))
+    return within_bindings(rng, before, others, apply(function, integer(times - 1)))
+
+
+def within_frames(rng, count, expression):
+    """The integer expression, and around it what keeps so many frames while it is evaluated and makes an integer of it."""
+    while count > 0:
+        x, number, operator = some_name(rng), integer(rng.randrange(-3, 10)), rng.choice([PLUS, MINUS, TIMES])
+        ways = 3 * [(1, let(x, expression, name(x)))] + [
+            (1, apply(fun(x, name(x)), expression)), (1, operation(operator, number, expression)),
+            (2, operation(operator, expression, number)), (3, choose(operation(rng.randrange(5, 10), expression, number), number, ONE))]
+        kept, expression = rng.choice([way for way in ways if way[0] <= count])
+        count -= kept
+    return expression
+
+
+def after_frames(rng, count, end):
+    """let x = + .. ((rec f -> fun n -> if <= n 0 then + .. (let x = END in ..) else + .. (f (- n 1))) ..) in ..: so many frames are kept
+    while END is evaluated, and no more anywhere else."""
+    f, n, x = some_names(rng, 3)
+    each = rng.randrange(20, 60)
+    # Besides the two lets, three frames at the end are as many as the test of n takes.
+    times, left = divmod(count - 5, each)
+    before = rng.randrange(left + 1)
+    last = within_frames(rng, 3 + left - before, let(x, end, rng.choice([name(x), some_integer(rng)])))
+    body = choose(is_done(n), last, within_frames(rng, each, apply(name(f), less_one(n))))
+    call = apply(rec(f, fun(n, body)), integer(times))
+    return let(x, within_frames(rng, before, call), rng.choice([name(x), some_constant(rng)]))
