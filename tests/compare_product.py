@@ -272,9 +272,9 @@ def some_formula(rng, sizes):
 def generated(rng):
     """Cases without end: several of each formula, and more of one that fills a store, since its runs are long."""
     for number in itertools.count():
-        fills = number % 25 == 1
+        fills = number % 30 == 1
         if fills:
-            formula = Formula(filling(rng, number // 25))
+            formula = Formula(filling(rng, number // 30))
         else:
             formula = some_formula(rng, [1, 2, 4, 8, 12, 16, 24, 40] if number % 5 else [100, 300, 512])
         for _ in range(6 if fills else 4):

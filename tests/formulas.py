@@ -364,7 +364,7 @@ def within_bindings(rng, count, names, expression):
 def after_bindings(rng, count, end):
     """let x = .. in (rec f -> fun n -> let x = .. in if <= n 0 then let x = .. in END else f (- n 1)) ..: so many bindings, then END."""
     f, n, *others = some_names(rng, 4)
-    each = rng.randrange(20, 60)
+    each = rng.randrange(10, 40)
     times, left = divmod(count, each)
     before = rng.randrange(left + 1)
     body = choose(is_done(n), within_bindings(rng, left - before, others, end), apply(name(f), less_one(n)))
@@ -376,11 +376,15 @@ def after_bindings(rng, count, end):
 def within_frames(rng, count, expression):
     """The integer expression, and around it what keeps so many frames while it is evaluated and makes an integer of it."""
     while count > 0:
+        kept = min(count, rng.choice([1, 1, 1, 1, 2, 3]))
         x, number, operator = some_name(rng), integer(rng.randrange(-3, 10)), rng.choice([PLUS, MINUS, TIMES])
-        ways = 3 * [(1, let(x, expression, name(x)))] + [
-            (1, apply(fun(x, name(x)), expression)), (1, operation(operator, number, expression)),
-            (2, operation(operator, expression, number)), (3, choose(operation(rng.randrange(5, 10), expression, number), number, ONE))]
-        kept, expression = rng.choice([way for way in ways if way[0] <= count])
+        if kept == 3:
+            expression = choose(operation(rng.randrange(5, 10), expression, number), number, ONE)
+        elif kept == 2:
+            expression = operation(operator, expression, number)
+        else:
+            bound, called = let(x, expression, name(x)), apply(fun(x, name(x)), expression)
+            expression = rng.choice([bound, bound, called, operation(operator, number, expression)])
         count -= kept
     return expression
 
@@ -389,7 +393,7 @@ def after_frames(rng, count, end):
     """let x = + .. ((rec f -> fun n -> if <= n 0 then + .. (let x = END in ..) else + .. (f (- n 1))) ..) in ..: so many frames are kept
     while END is evaluated, and no more anywhere else."""
     f, n, x = some_names(rng, 3)
-    each = rng.randrange(20, 60)
+    each = rng.randrange(10, 40)
     # Besides the two lets, three frames at the end are as many as the test of n takes.
     times, left = divmod(count - 5, each)
     before = rng.randrange(left + 1)
