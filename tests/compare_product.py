@@ -315,7 +315,7 @@ class Met:
 def demand(program, entry, types, inputs, count):
     shares = Shares()
     program.demand(shares, "program", count)
-    shares.demand("no words", inputs, count, 1 / 1000)
+    shares.demand("no words", inputs, count, 3 / 100)
     # The program's fuel is used up in few of the chosen cases only, since a run of so many steps is too dear for the second machine.
     shares.demand_codes(program.codes, [code for code in range(10, 20) if code != 17], count, 1 / 100)
     shares.demand_codes(program.codes, [17], 1, 1)
