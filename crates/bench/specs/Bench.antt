@@ -4,7 +4,7 @@ use Prim.Native.Nat.{ℕ, _≤_}
 use mathlib.Core.Path.{_≡_}
 use mathlib.Core.List.{List, [], _∷_}
 use lib.ListN.{length, take}
-use Rattle.table.specs.Refusals.{countOf}
+use Rattle.table.specs.Node.{countOf}
 use Rattle.machine.specs.Answers as Run
 use Rattle.machine.specs.Runs.{capacityOf, RunIs}
 use Rattle.machine.specs.declared.Ran.{Ran}

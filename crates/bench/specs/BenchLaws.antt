@@ -6,9 +6,10 @@ use native.Mathlib.Omega.{arith}
 use lib.ListN.{length, take, drop, length-replicate}
 use lib.Seq.{take-append-seam}
 use Rattle.lent.specs.Cleared.{zeros}
-use Rattle.table.specs.Refusals.{countOf, checkOf}
-use Rattle.table.specs.Accepted.{accepted-is-checked, count-is}
-use Rattle.table.specs.declared.Verdict.the-variants.{Accepted}
+use Rattle.table.specs.Node.{countOf}
+use Rattle.acceptance.specs.Refusals.{checkOf}
+use Rattle.acceptance.specs.Accepted.{accepted-is-checked, count-is}
+use Rattle.acceptance.specs.declared.Verdict.the-variants.{Accepted}
 use Rattle.inference.specs.Inference.{workFor, withType, After, Infers, turned, work-short, no-type, out-short, typed}
 use Rattle.inference.specs.Textbook.{infers-textbook}
 use Rattle.bench.specs.Bench.{Call, inference, run, Row, typeNumbers, asFar, InferenceGives, CallGives, Holds, Each}

@@ -4,8 +4,8 @@ use mathlib.Core.List.{List}
 use Rattle.language.specs.Integers.{meaning}
 use Rattle.language.specs.WrittenForm.{isAmong, appearing, placeIn, spell, wordsOf}
 use Rattle.lent.specs.Cleared.{zeros}
-use Rattle.table.specs.Node.{nodeOf, nodeAt}
-use Rattle.table.specs.Refusals.{countOf, fitsRule, timesBelow, firstFrom, checkOf}
+use Rattle.table.specs.Node.{nodeOf, nodeAt, countOf}
+use Rattle.acceptance.specs.Refusals.{fitsRule, timesBelow, firstFrom, checkOf}
 use Rattle.semantics.specs.Limits.{runFrom}
 use Rattle.semantics.specs.Machine.{newestBinding}
 use Rattle.semantics.specs.Answer.{runTable}

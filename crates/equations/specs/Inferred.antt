@@ -13,7 +13,7 @@ use Rattle.table.specs.Node.{Nodes}
 use Rattle.table.specs.Walk.{climbFrom}
 use Rattle.table.specs.Scope.{firstNamed}
 use Rattle.table.specs.ExpressionOf.{expAt}
-use Rattle.table.specs.Tree.{Tree}
+use Rattle.table.specs.Tree.{ClosedTree}
 use Rattle.equations.specs.Equations.{nodeVar, equationsBelow}
 use Rattle.equations.specs.TypingsSolve.{typing-is-solution}
 use Rattle.equations.specs.TypedExactlySolvable.{most-general-is-principal}
@@ -32,7 +32,7 @@ abbrev pub RightType : Exp → Option Ty → Type 0
 RightType e (some τ) = Principal empty e τ
 RightType e none = (τ : Ty) → ¬ Has empty e τ
 
-pub inferred-right : {nd : Nodes} {n : ℕ} → Tree nd n → RightType (expAt nd n 0) (inferred nd n)
+pub inferred-right : {nd : Nodes} {n : ℕ} → ClosedTree nd n → RightType (expAt nd n 0) (inferred nd n)
 unfolding inferred
 inferred-right {nd} {n} t = go (unify (equationsBelow nd n)) (unify-right (equationsBelow nd n))
   where

@@ -9,7 +9,7 @@ use Rattle.language.specs.Principal.{Principal}
 use Rattle.language.specs.Unification.{Solves, MostGeneralSolution}
 use Rattle.table.specs.Node.{Nodes}
 use Rattle.table.specs.ExpressionOf.{expAt}
-use Rattle.table.specs.Tree.{Tree}
+use Rattle.table.specs.Tree.{ClosedTree}
 use Rattle.equations.specs.Equations.{nodeVar, equationsBelow}
 use Rattle.equations.specs.Cells.{Store, Sat, Grounds, LinksFall, Leans}
 use Rattle.equations.specs.Grounded as Grounded
@@ -17,7 +17,7 @@ use Rattle.equations.specs.TypedExactlySolvable as TypedExactlySolvable
 use Rattle.equations.specs.Inferred as Inferred
 use Rattle.equations.specs.Inferred.{inferred, RightType}
 
-module _ {nd : Nodes} {n : ℕ} (t : Tree nd n) where
+module _ {nd : Nodes} {n : ℕ} (t : ClosedTree nd n) where
   -- The formula has type τ exactly if the equations of all nodes have a solution with τ at the root.
   typed-exactly-solved : {τ : Ty} → Has empty (expAt nd n 0) τ ↔ ((s : Subst) × Solves s (equationsBelow nd n) × (s (nodeVar 0) ≡ τ))
   typed-exactly-solved = TypedExactlySolvable.typed-exactly-solved t

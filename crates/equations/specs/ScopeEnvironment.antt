@@ -14,7 +14,7 @@ use Rattle.language.specs.Environment.{Env, empty, bind, here, outside}
 use Rattle.language.specs.Typing.{Has, ID}
 use Rattle.table.specs.Node.{Node, Nodes, constant-node, name-node, application-node, if-node, lambda-node, let-node, rec-node, Field, Kid}
 use Rattle.table.specs.Scope.{bindsIn, enter, scope, isNamed, firstNamed, binderOf}
-use Rattle.table.specs.Tree.{Tree}
+use Rattle.table.specs.Tree.{Tree, ClosedTree}
 use Rattle.table.specs.TreeLaws.{climb-kid}
 use Rattle.equations.specs.Equations.{nameVar}
 
@@ -77,5 +77,5 @@ module _ (nd : Nodes) (s : Subst) where
   name-found x b (p ∷ ps) e = found-at x p b (name-found x b ps) (nd p) e
 
   -- A name node's name has the type of its binder.
-  pub name-has-binder's-type : {n k : ℕ} {x : Name} → Tree nd n → k < n → nd k ≡ name-node x → (b : ℕ) × (binderOf nd k ≡ some b) × Has (envOf (scope nd k)) (name x) (s (nameVar b))
+  pub name-has-binder's-type : {n k : ℕ} {x : Name} → ClosedTree nd n → k < n → nd k ≡ name-node x → (b : ℕ) × (binderOf nd k ≡ some b) × Has (envOf (scope nd k)) (name x) (s (nameVar b))
   name-has-binder's-type {k = k} {x = x} t below e = let (b, found) = t .bound below e in (b, rw e found, name-found x b (scope nd k) found)

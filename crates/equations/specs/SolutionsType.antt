@@ -12,14 +12,14 @@ use Rattle.language.specs.MostGeneral.{first-solved}
 use Rattle.table.specs.Node.{Node, Nodes, constant-node, name-node, application-node, if-node, lambda-node, let-node, rec-node, Field, field-a, field-b, field-c, child, Kid}
 use Rattle.table.specs.Scope.{enter, scope}
 use Rattle.table.specs.ExpressionOf.{shape, expAt}
-use Rattle.table.specs.Tree.{Tree}
+use Rattle.table.specs.Tree.{ClosedTree}
 use Rattle.table.specs.TreeLaws.{climb-root, up}
 use Rattle.table.specs.ExpressionLaws.{exp-is}
 use Rattle.equations.specs.Equations.{nodeVar, nameVar, nameEquations, equationsAt, equationsBelow}
 use Rattle.equations.specs.NodeByNode.{solves-each}
 use Rattle.equations.specs.ScopeEnvironment.{inside, envOf, env-of-kid, name-has-binder's-type}
 
-module _ {nd : Nodes} {n : ℕ} (t : Tree nd n) (s : Subst) where
+module _ {nd : Nodes} {n : ℕ} (t : ClosedTree nd n) (s : Subst) where
   abbrev Typed : ℕ → Type 0
   Typed k = Has (envOf nd s (scope nd k)) (expAt nd n k) (s (nodeVar k))
 
@@ -41,10 +41,10 @@ module _ {nd : Nodes} {n : ℕ} (t : Tree nd n) (s : Subst) where
   by-rule k below (rec-node x b) e (also q₁ (also q₂ none-left)) kid = REC′ (rw (← q₁, ← q₂) at (kid field-b b refl))
 
   every-node-typed : Solves s (equationsBelow nd n) → (k : ℕ) → k < n → Typed k
-  every-node-typed h = up t Typed λ k below kids. rw (exp-is t k below) (by-rule k below (nd k) refl (solves-each nd s n h k below) λ f c stands.
+  every-node-typed h = up (t .tree) Typed λ k below kids. rw (exp-is (t .tree .descending) k below) (by-rule k below (nd k) refl (solves-each nd s n h k below) λ f c stands.
       let kid : Kid nd k f c = record { stands = stands } in
-      rw (env-of-kid nd s t below kid) at (kids f c kid))
+      rw (env-of-kid nd s (t .tree) below kid) at (kids f c kid))
 
   pub solution-is-typing : Solves s (equationsBelow nd n) → Has empty (expAt nd n 0) (s (nodeVar 0))
   unfolding envOf
-  solution-is-typing h = rw (climb-root [] (enter nd) nd) at (every-node-typed h 0 (t .root))
+  solution-is-typing h = rw (climb-root [] (enter nd) nd) at (every-node-typed h 0 (t .tree .root))

@@ -9,12 +9,12 @@ use Rattle.language.specs.Principal.{Principal}
 use Rattle.language.specs.Unification.{Solves, MostGeneralSolution}
 use Rattle.table.specs.Node.{Nodes}
 use Rattle.table.specs.ExpressionOf.{expAt}
-use Rattle.table.specs.Tree.{Tree}
+use Rattle.table.specs.Tree.{ClosedTree}
 use Rattle.equations.specs.Equations.{nodeVar, equationsBelow}
 use Rattle.equations.specs.SolutionsType.{solution-is-typing}
 use Rattle.equations.specs.TypingsSolve.{typing-is-solution}
 
-module _ {nd : Nodes} {n : ℕ} (t : Tree nd n) where
+module _ {nd : Nodes} {n : ℕ} (t : ClosedTree nd n) where
   -- With type τ at the root.
   pub typed-exactly-solved : {τ : Ty} → Has empty (expAt nd n 0) τ ↔ ((s : Subst) × Solves s (equationsBelow nd n) × (s (nodeVar 0) ≡ τ))
   typed-exactly-solved = (typing-is-solution t, λ (s, h, e). rw e at (solution-is-typing t s h))

@@ -19,7 +19,7 @@ use Rattle.table.specs.Node.{Node, Nodes, constant-node, name-node, application
 use Rattle.table.specs.Walk.{climb}
 use Rattle.table.specs.Scope.{enter, scope}
 use Rattle.table.specs.ExpressionOf.{shape, expAt}
-use Rattle.table.specs.Tree.{Tree}
+use Rattle.table.specs.Tree.{ClosedTree}
 use Rattle.table.specs.TreeLaws.{climb-root, climb-kid, down}
 use Rattle.table.specs.ExpressionLaws.{exp-is}
 use Rattle.equations.specs.Equations.{nodeVar, nameVar, nameEquations, equationsAt, equationsBelow}
@@ -59,7 +59,7 @@ one-type (ID found) (ID found′) = same found found′
     same (outside differ f) here = absurd (differ refl)
     same (outside differ f) (outside differ′ g) = same f g
 
-module _ {nd : Nodes} {n : ℕ} (t : Tree nd n) (s : Subst) where
+module _ {nd : Nodes} {n : ℕ} (t : ClosedTree nd n) (s : Subst) where
   -- A line for each rule: a derivation for a node solves the node's equations, if the types that s gives are those of the derivation and
   -- of its premises.
   solves-at : (k : ℕ) → k < n → (node : Node) → nd k ≡ node → {j : Derivation} → Types j (envOf nd s (scope nd k)) (shape (expAt nd n) node) →
@@ -80,7 +80,7 @@ module _ {nd : Nodes} {n : ℕ} (t : Tree nd n) (s : Subst) where
 
 -- ---- The derivation carried down
 
-module _ {nd : Nodes} {n : ℕ} (t : Tree nd n) {τ : Ty} (d : Has empty (expAt nd n 0) τ) where
+module _ {nd : Nodes} {n : ℕ} (t : ClosedTree nd n) {τ : Ty} (d : Has empty (expAt nd n 0) τ) where
   abbrev to-premise : ℕ → Field → Derivation → Derivation
   to-premise p f j = premise j f
 
@@ -107,15 +107,15 @@ module _ {nd : Nodes} {n : ℕ} (t : Tree nd n) {τ : Ty} (d : Has empty (expAt 
 
   to-kid : (p : ℕ) (f : Field) (c : ℕ) → p < n → Kid nd p f c → Arrives p → Arrives c
   to-kid p f c below kid a =
-      let b = premise-types-kid (expAt nd n) (nd p) f (kid .stands) (rw (exp-is t p below) at a) in
-      rw (climb-kid t (packed d) to-premise below kid, env-of-kid nd typing-solution t below kid, at-name p) b
+      let b = premise-types-kid (expAt nd n) (nd p) f (kid .stands) (rw (exp-is (t .tree .descending) p below) at a) in
+      rw (climb-kid (t .tree) (packed d) to-premise below kid, env-of-kid nd typing-solution (t .tree) below kid, at-name p) b
 
   solves-every : (k : ℕ) → k < n → Solves typing-solution (equationsAt nd k (nd k))
   solves-every k below =
-      solves-at t typing-solution k below (nd k) refl (rw (exp-is t k below) at (down t Arrives at-root to-kid k below)) (at-node k) (at-name k)
+      solves-at t typing-solution k below (nd k) refl (rw (exp-is (t .tree .descending) k below) at (down (t .tree) Arrives at-root to-kid k below)) (at-node k) (at-name k)
       λ f c stands.
       let kid : Kid nd k f c = record { stands = stands } in
-      at-node c ∙ ap (λ j. j .type) (climb-kid t (packed d) to-premise below kid)
+      at-node c ∙ ap (λ j. j .type) (climb-kid (t .tree) (packed d) to-premise below kid)
 
   pub typing-is-solution : (s : Subst) × Solves s (equationsBelow nd n) × (s (nodeVar 0) ≡ τ)
   typing-is-solution = (typing-solution, solves-below nd typing-solution n solves-every, at-node 0 ∙ ap (λ j. j .type) (climb-root (packed d) to-premise nd))

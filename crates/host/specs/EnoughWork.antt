@@ -5,7 +5,7 @@ use mathlib.Core.Logic.{_≢_}
 use mathlib.Core.List.{List}
 use native.Mathlib.Omega.{arith}
 use lib.ListN.{length-replicate}
-use Rattle.table.specs.Accepted.{accepted-is-checked}
+use Rattle.acceptance.specs.Accepted.{accepted-is-checked}
 use Rattle.inference.specs.Inference.{codeOf}
 use Rattle.inference.specs.InferenceOnce.{code-5-exactly}
 use Rattle.host.specs.Entries.{part-of-a-node, whole-nodes, InfersOn, InferEntry}

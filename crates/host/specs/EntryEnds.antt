@@ -11,9 +11,9 @@ use Rattle.language.specs.Expression.{Exp}
 use Rattle.language.specs.Expression as L2
 use Rattle.language.specs.Integers.{Exception}
 use Rattle.language.specs.SmallStep.{raised, Step, Steps, Diverges}
-use Rattle.table.specs.Refusals.{checkOf}
+use Rattle.acceptance.specs.Refusals.{checkOf}
 use Rattle.table.specs.ExpressionOf.{expOf}
-use Rattle.table.specs.declared.Verdict.the-variants.{Accepted}
+use Rattle.acceptance.specs.declared.Verdict.the-variants.{Accepted}
 use Rattle.semantics.specs.Limits.{AtLeast}
 use Rattle.semantics.specs.Answer.{DefinedAnswer, exception-answer}
 use Rattle.semantics.specs.AnswerCodes.{answers-10-to-19}

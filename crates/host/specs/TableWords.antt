@@ -13,8 +13,8 @@ use Rattle.lent.specs.Cleared.{zeros}
 use Rattle.lent.specs.Bytes.{fromBytes, overwrite}
 use Rattle.lent.specs.Overwriting.{overwrite-length, overwrite-fits}
 use Rattle.lent.specs.ByteLaws.{length-fromBytes}
-use Rattle.table.specs.Refusals.{checkOf}
-use Rattle.table.specs.declared.Verdict.the-variants.{Refused as Turned}
+use Rattle.acceptance.specs.Refusals.{checkOf}
+use Rattle.acceptance.specs.declared.Verdict.the-variants.{Refused as Turned}
 use Rattle.inference.specs.Inference.{leaves, turned}
 use Rattle.inference.specs.declared.Inferred.the-variants.{Refused}
 use Rattle.machine.specs.Runs.{refusedAs}

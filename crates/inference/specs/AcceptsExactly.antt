@@ -12,9 +12,9 @@ use Rattle.language.specs.Environment.{empty}
 use Rattle.language.specs.Typing.{Has}
 use Rattle.language.specs.Principal.{Principal}
 use Rattle.table.specs.Node.{nodeAt}
-use Rattle.table.specs.Refusals.{checkOf}
+use Rattle.acceptance.specs.Refusals.{checkOf}
 use Rattle.table.specs.ExpressionOf.{expOf}
-use Rattle.table.specs.declared.Verdict.the-variants.{Accepted}
+use Rattle.acceptance.specs.declared.Verdict.the-variants.{Accepted}
 use Rattle.equations.specs.Inferred.{inferred, RightType}
 use Rattle.inference.specs.Textbook.{right-type-inferred}
 use Rattle.inference.specs.Inference.{codeOf, workFor, After, Infers, turned, work-short, no-type, out-short, typed}

@@ -6,8 +6,8 @@ use mathlib.Core.Logic.{_⊎_, inl, inr, ⊎-elim, _≢_}
 use mathlib.Core.List.{List}
 use native.Mathlib.Decide.{ℕ-discrete, decLt}
 use native.Mathlib.Omega.{arith}
-use Rattle.table.specs.Refusals.{countOf}
-use Rattle.table.specs.RefusedPlaces.{RefusedPlace, refused-place}
+use Rattle.table.specs.Node.{countOf}
+use Rattle.acceptance.specs.RefusedPlaces.{RefusedPlace, refused-place}
 use Rattle.inference.specs.Inference.{codeOf, placeOf, After, Infers, turned, work-short, no-type, out-short, typed}
 
 -- What a code and its place say, in a table of n nodes.

@@ -5,8 +5,8 @@ use mathlib.Core.Bool.{Bool, true, false}
 use mathlib.Core.Logic.{_≢_}
 use native.Mathlib.Decide.{ℕ-discrete}
 use native.Mathlib.Omega.{arith}
-use Rattle.table.specs.Refusals.{once}
-use Rattle.table.specs.Placed.{once-small}
+use Rattle.acceptance.specs.Refusals.{once}
+use Rattle.acceptance.specs.Placed.{once-small}
 
 unfoldable pub count : (ℕ → Bool) → ℕ → ℕ
 count p zero = 0

@@ -6,7 +6,7 @@ use mathlib.Core.List.{List, [], _∷_}
 use lib.ListN.{replicate}
 use Rattle.language.specs.WrittenForm.{isAmong, appearing, placeIn, spell, wordsOf}
 use Rattle.table.specs.Node.{nodeOf, nodeAt}
-use Rattle.table.specs.Refusals.{fitsRule, timesBelow, firstFrom, checkOf}
+use Rattle.acceptance.specs.Refusals.{fitsRule, timesBelow, firstFrom, checkOf}
 use Rattle.equations.specs.Inferred.{inferred}
 use Rattle.inference.specs.Inference.{After, leaves}
 use Rattle.inference.specs.Textbook.{textbook}

@@ -6,11 +6,11 @@ use native.Mathlib.Omega.{arith}
 use lib.ListN.{length, take, drop}
 use Rattle.lent.specs.Cleared.{zeros}
 use Rattle.lent.specs.Prefix.{length-lent, length-back, back-cleared}
-use Rattle.table.specs.Refusals.{checkOf}
-use Rattle.table.specs.Tree.{Checked}
-use Rattle.table.specs.Accepted.{accepted-is-checked}
-use Rattle.table.specs.declared.Verdict.{Verdict}
-use Rattle.table.specs.declared.Verdict.the-variants.{Accepted, Refused as Turned}
+use Rattle.acceptance.specs.Refusals.{checkOf}
+use Rattle.acceptance.specs.Checked.{Checked}
+use Rattle.acceptance.specs.Accepted.{accepted-is-checked}
+use Rattle.acceptance.specs.declared.Verdict.{Verdict}
+use Rattle.acceptance.specs.declared.Verdict.the-variants.{Accepted, Refused as Turned}
 use Rattle.inference.specs.TableCells.{TableRoom}
 use Rattle.inference.specs.Inference.{workFor, leaves, Infers, turned}
 use Rattle.inference.specs.WithWork.{InfersWithWork}
@@ -38,7 +38,7 @@ module _ (words : List ℕ) (n : ℕ) (v : checkOf words ≡ Accepted n) where
   checked = accepted-is-checked words n v
 
   cells-within-work : cellWords n ≤ workFor n
-  cells-within-work = omega (arith, checked .tree .root)
+  cells-within-work = omega (arith, checked .closed .tree .root)
 
   module _ (work : List ℕ) (enough : workFor n ≤ length work) where
     pub cells-within : cellWords n ≤ length work

@@ -9,9 +9,9 @@ use Rattle.language.specs.Environment.{empty}
 use Rattle.language.specs.Typing.{Has}
 use Rattle.language.specs.Principal.{Principal}
 use Rattle.language.specs.WrittenForm.{wordsOf}
-use Rattle.table.specs.Refusals.{checkOf}
+use Rattle.acceptance.specs.Refusals.{checkOf}
 use Rattle.table.specs.ExpressionOf.{expOf}
-use Rattle.table.specs.declared.Verdict.the-variants.{Accepted, Refused as Turned}
+use Rattle.acceptance.specs.declared.Verdict.the-variants.{Accepted, Refused as Turned}
 use Rattle.inference.specs.declared.Inferred.{Inferred}
 use Rattle.inference.specs.declared.Inferred.the-variants.{Typed, Refused}
 

@@ -5,8 +5,8 @@ use mathlib.Core.Path.{_≡_, refl, sym, _∙_, ap, subst}
 use mathlib.Core.List.{List, [], _∷_}
 use mathlib.Core.Logic.{_↔_}
 use lib.ListN.{getD}
-use Rattle.table.specs.RefusedFor.{RefusedFor, for-its-count, for-a-rule, for-a-parent, for-a-name}
-use Rattle.table.specs.RefusalsExactly.{refused-for}
+use Rattle.acceptance.specs.RefusedFor.{RefusedFor, for-its-count, for-a-rule, for-a-parent, for-a-name}
+use Rattle.acceptance.specs.RefusalsExactly.{refused-for}
 use Rattle.inference.specs.Inference.{codeOf, After, Infers, turned, work-short, no-type, out-short, typed}
 use Rattle.inference.specs.Cases.{WorkShort, NoType, OutShort, TypeFits}
 use Rattle.inference.specs.Textbook.{infers-textbook}

@@ -10,7 +10,7 @@ use borrow.Author.Tests.{ne-eqb}
 use Rattle.language.specs.Ty.{Subst}
 use Rattle.equations.specs.Cells.{Put, Sat}
 use Rattle.equations.specs.CellSteps.{free-written, equal-linked, copied-down, arrow-linked, tag, clash}
-use Rattle.table.specs.Refusals.{once}
+use Rattle.acceptance.specs.Refusals.{once}
 use Rattle.inference.specs.Layout.{cellAt, pairAt, storeOf, cellsIn, Sound, CellPut}
 use Rattle.inference.specs.StoreLaws.{store-is, store-put, sound-put, tag-of, base-says, above-one, says-free, says-arrow}
 use Rattle.inference.specs.Count.{count-changed}

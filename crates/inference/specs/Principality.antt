@@ -12,10 +12,10 @@ use Rattle.language.specs.Principal.{Principal}
 use Rattle.language.specs.Unification.{Solves, MostGeneralSolution}
 use Rattle.language.specs.WrittenForm.{wordsOf}
 use Rattle.table.specs.Node.{nodeAt}
-use Rattle.table.specs.Refusals.{checkOf}
+use Rattle.acceptance.specs.Refusals.{checkOf}
 use Rattle.table.specs.ExpressionOf.{expOf}
-use Rattle.table.specs.Accepted.{count-is}
-use Rattle.table.specs.declared.Verdict.the-variants.{Accepted}
+use Rattle.acceptance.specs.Accepted.{count-is}
+use Rattle.acceptance.specs.declared.Verdict.the-variants.{Accepted}
 use Rattle.equations.specs.Cells.{Sat, Grounds}
 use Rattle.equations.specs.Grounded.{grounded-satisfies, grounded-then-any}
 use Rattle.equations.specs.Equations.{equationsBelow}
@@ -56,7 +56,7 @@ demanded words n s h = (constants-in-place s, rw (unknowns-back s) h)
 
 module _ {words : List ℕ} {n : ℕ} {free : List ℕ} (t : TableReady words n free) where
   untyped : ((s : Subst) → ¬ Solves s (equationsBelow (nodeAt words) n)) → (τ : Ty) → ¬ Has empty (expOf words) τ
-  untyped none τ d = let (s, h) = typed-exactly-solvable (t .tree) .0 (τ, rw (← (t .counted)) at d) in none s h
+  untyped none τ d = let (s, h) = typed-exactly-solvable (t .closed) .0 (τ, rw (← (t .counted)) at d) in none s h
 
   -- The equations clash.
   pub clash-untyped : {mem : List ℕ} → Outcome free mem (TableSolved words n) false → (τ : Ty) → ¬ Has empty (expOf words) τ
@@ -73,7 +73,7 @@ module _ {words : List ℕ} {n : ℕ} {free : List ℕ} (t : TableReady words n 
     -- ---- The most general type
 
     pub grounded-principal : {γ : Subst} → Grounds γ (storeOf mem) → Principal empty (expOf words) (γ 4)
-    grounded-principal {γ} g = rw (← (t .counted)) (most-general-is-principal (t .tree) most-general)
+    grounded-principal {γ} g = rw (← (t .counted)) (most-general-is-principal (t .closed) most-general)
       where
         most-general : MostGeneralSolution (equationsBelow (nodeAt words) n) (unknowns γ)
         most-general = record {
@@ -85,7 +85,7 @@ module _ {words : List ℕ} {n : ℕ} {free : List ℕ} (t : TableReady words n 
     module _ {tested : List ℕ} (gt : GroundTested mem tested true) where
       pub root-ready : Sound tested × (4 < cellsIn tested) × ((i : ℕ) → pairAt tested i .right ≡ 0)
       root-ready =
-          let some = t .tree .root in
+          let some = t .closed .tree .root in
           let whole : length tested ≡ 5 * (2 * n + 4) = gt .same .same-length ∙ o .same-length ∙ t .whole in
           (sound-same (o .says .sound) (gt .same), omega arith, gt .no-numbers)
 
@@ -113,8 +113,8 @@ zero-everywhere (suc m) (suc k) = zero-everywhere m k
 pub cleared-ready : {words : List ℕ} {n : ℕ} {mem zeroed : List ℕ} → TableRoom words n mem → zeroed ≡ replicate (length mem) 0 → TableReady words n zeroed
 cleared-ready {words} {n} {mem} {zeroed} r is = record {
   counted = sym (count-is (r .checked));
-  tree = r .checked .tree;
-  cells = record { zero = λ i. rw is (free-at i); small = omega (arith, whole, r .checked .at-most-512); enough = omega (arith, whole, r .checked .tree .root) };
+  closed = r .checked .closed;
+  cells = record { zero = λ i. rw is (free-at i); small = omega (arith, whole, r .checked .at-most-512); enough = omega (arith, whole, r .checked .closed .tree .root) };
   whole = whole;
 }
   where

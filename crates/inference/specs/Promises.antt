@@ -8,9 +8,9 @@ use Rattle.language.specs.Ty.{Ty}
 use Rattle.language.specs.Environment.{empty}
 use Rattle.language.specs.Typing.{Has}
 use Rattle.language.specs.Principal.{Principal}
-use Rattle.table.specs.Refusals.{checkOf}
+use Rattle.acceptance.specs.Refusals.{checkOf}
 use Rattle.table.specs.ExpressionOf.{expOf}
-use Rattle.table.specs.declared.Verdict.the-variants.{Accepted}
+use Rattle.acceptance.specs.declared.Verdict.the-variants.{Accepted}
 use Rattle.inference.specs.Inference.{codeOf, workFor, After, Infers}
 use Rattle.inference.specs.InferenceOnce as InferenceOnce
 use Rattle.inference.specs.AcceptsExactly as AcceptsExactly

@@ -15,9 +15,8 @@ use Rattle.language.specs.TypingLaws.{constants-have-no-variable}
 use Rattle.language.specs.Unification.{_≐_, Solves, none-left, also}
 use Rattle.language.specs.MostGeneral.{first-solved}
 use Rattle.language.specs.Numbers.{operatorAt}
-use Rattle.table.specs.Node.{Node, Field, field-a, field-b, field-c, child, nodeOf, nodeAt}
+use Rattle.table.specs.Node.{Node, Field, field-a, field-b, field-c, child, nodeOf, nodeAt, countOf}
 use Rattle.table.specs.Scope.{nameOf, binderFor, binderOf}
-use Rattle.table.specs.Refusals.{countOf}
 use Rattle.table.specs.Asked.{wordsAt, binderAnswer, binderIn}
 use Rattle.table.specs.NodeLaws.{reads-as}
 use Rattle.table.specs.Lookup.{found-below}
@@ -60,7 +59,7 @@ module _ {words : List ℕ} {k : ℕ} {mem : List ℕ} (r : NodeReady words k me
 
   -- Children are nodes of the table.
   pub child-below : {node : Node} → nodeAt words k ≡ node → (f : Field) {c : ℕ} → child node f ≡ some c → c < countOf words
-  child-below e f stands = r .tree .inside {f = f} (r .below) (record { stands = rw e stands })
+  child-below e f stands = r .closed .tree .descending .inside {f = f} (r .below) (record { stands = rw e stands })
 
 -- ---- A name
 

@@ -8,10 +8,10 @@ use lib.Dec.{ltb}
 use lib.ListN.{length}
 use Rattle.language.specs.Ty.{bool, int, _⇒_, Subst}
 use Rattle.language.specs.Unification.{Solves}
-use Rattle.table.specs.Node.{nodeAt}
+use Rattle.table.specs.Node.{nodeAt, countOf}
 use Rattle.table.specs.Scope.{binderOf}
-use Rattle.table.specs.Refusals.{countOf}
-use Rattle.table.specs.Tree.{Tree, Checked}
+use Rattle.table.specs.Tree.{ClosedTree}
+use Rattle.acceptance.specs.Checked.{Checked}
 use Rattle.equations.specs.Cells.{Sat}
 use Rattle.equations.specs.Equations.{nodeVar, nameVar, nameEquations, equationsAt, equationsBelow}
 use Rattle.inference.specs.Layout.{cellAt, storeOf, cellsIn, Sound}
@@ -62,11 +62,11 @@ TableSolved words n ρ = Constants ρ × NodesSolved words n ρ
 -- A table of n nodes that is a tree, with cells for it; and a node of it.
 pub record NodesReady (words : List ℕ) (n : ℕ) (mem : List ℕ) : Type 0 where
   pub counted : n ≡ countOf words
-  pub tree : Tree (nodeAt words) n
+  pub closed : ClosedTree (nodeAt words) n
   pub cells : CellsFor n mem
 
 pub record NodeReady (words : List ℕ) (k : ℕ) (mem : List ℕ) : Type 0 where
-  pub tree : Tree (nodeAt words) (countOf words)
+  pub closed : ClosedTree (nodeAt words) (countOf words)
   pub below : k < countOf words
   pub cells : CellsFor (countOf words) mem
 
@@ -80,7 +80,7 @@ pub record AllFree (mem : List ℕ) : Type 0 where
 
 pub record TableReady (words : List ℕ) (n : ℕ) (mem : List ℕ) : Type 0 where
   pub counted : n ≡ countOf words
-  pub tree : Tree (nodeAt words) n
+  pub closed : ClosedTree (nodeAt words) n
   pub cells : AllFree mem
   pub whole : length mem ≡ 5 * (2 * n + 4)
 

@@ -83,7 +83,7 @@ module _ {m₀ m₁ m₂ m₃ m₄ : List ℕ} (f : AllFree m₀)
 pub constants-ready : {words : List ℕ} {n : ℕ} {free mem : List ℕ} → TableReady words n free → Outcome free mem Constants true → NodesReady words n mem
 constants-ready t o = record {
   counted = t .counted;
-  tree = t .tree;
+  closed = t .closed;
   cells = record { sound = o .says .sound; whole = o .same-length ∙ t .whole; constants = λ ρ h. o .says .keeps ρ .1 h .1 };
 }
 
@@ -97,7 +97,7 @@ module _ {words : List ℕ} {n : ℕ} {start : List ℕ} (t : NodesReady words n
   module _ {mem : List ℕ} {k : ℕ} (below : k < n) (so-far : Outcome start mem (NodesSolved words k) true) where
     pub next-ready : NodeReady words k mem
     next-ready = record {
-      tree = rw (← (t .counted)) (t .tree);
+      closed = rw (← (t .counted)) (t .closed);
       below = rw (← (t .counted)) below;
       cells = record {
         sound = so-far .says .sound;

@@ -12,11 +12,11 @@ use Rattle.language.specs.Ty.{Ty}
 use Rattle.language.specs.WrittenForm.{wordsOf}
 use Rattle.language.specs.WrittenFormLaws.{principal-same-words}
 use Rattle.table.specs.Node.{nodeAt}
-use Rattle.table.specs.Refusals.{checkOf}
+use Rattle.acceptance.specs.Refusals.{checkOf}
 use Rattle.table.specs.ExpressionOf.{expAt, expOf}
-use Rattle.table.specs.Accepted.{accepted-is-checked, count-is}
-use Rattle.table.specs.declared.Verdict.{Verdict}
-use Rattle.table.specs.declared.Verdict.the-variants.{Accepted, Refused as Turned}
+use Rattle.acceptance.specs.Accepted.{accepted-is-checked, count-is}
+use Rattle.acceptance.specs.declared.Verdict.{Verdict}
+use Rattle.acceptance.specs.declared.Verdict.the-variants.{Accepted, Refused as Turned}
 use Rattle.equations.specs.Inferred.{inferred, RightType, inferred-right}
 use Rattle.inference.specs.Inference.{workFor, workCleared, withType, After, leaves, Infers, turned, work-short, no-type, out-short, typed}
 use Rattle.inference.specs.declared.Inferred.the-variants.{Typed, Refused}
@@ -51,7 +51,7 @@ module _ (words work out : List ℕ) where
     pub right-type-inferred : RightType (expOf words) (inferred (nodeAt words) n)
     right-type-inferred =
         let checked = accepted-is-checked words n v in
-        subst (λ count. RightType (expAt (nodeAt words) count 0) (inferred (nodeAt words) n)) (sym (count-is checked)) (inferred-right (checked .tree))
+        subst (λ count. RightType (expAt (nodeAt words) count 0) (inferred (nodeAt words) n)) (sym (count-is checked)) (inferred-right (checked .closed))
 
     module _ (enough : workFor n ≤ length work) where
       by-out : (τ : Ty) → RightType (expOf words) (some τ) → (short : Bool) → ltb (length out) (length (wordsOf τ)) ≡ short → Infers words work out (outAfter short n (wordsOf τ))

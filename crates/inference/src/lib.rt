@@ -5,10 +5,10 @@ mod rules;
 mod solve;
 mod write;
 
-use table::Verdict;
+use acceptance::Verdict;
 ghost use mathlib.Core.Path.{_≡_};
-ghost use Rattle.table.specs.Refusals.{checkOf};
-ghost use Rattle.table.specs.declared.Verdict.the-variants.{Accepted};
+ghost use Rattle.acceptance.specs.Refusals.{checkOf};
+ghost use Rattle.acceptance.specs.declared.Verdict.the-variants.{Accepted};
 ghost use Rattle.inference.specs.TableCells.{TableReady, TableRoom};
 ghost use Rattle.inference.specs.Inference.{leaves, Infers};
 ghost use Rattle.inference.specs.WithWork.{InfersWithWork};
@@ -79,7 +79,7 @@ fn refused(checked: Verdict) -> Inferred
 pub fn infer(words: &[u32], work: &mut [u32], out: &mut [u32]) -> Inferred
     ensures { λ r. ⌜ Infers (now (words .entry)) (now (work .entry)) (now (out .entry)) (leaves r (now (work .exit)) (now (out .exit))) ⌝ }
 {
-    let checked = table::check(words);
+    let checked = acceptance::check(words);
     let Verdict::Accepted(n) = checked else {
         return refused(checked);
     };

@@ -9,7 +9,7 @@ use Rattle.language.specs.Determinism.{steps-are-deterministic}
 use Rattle.language.specs.ClosedSteps.{step-stays-closed}
 use Rattle.table.specs.Node.{Nodes}
 use Rattle.table.specs.ExpressionOf.{expAt}
-use Rattle.table.specs.Tree.{Tree}
+use Rattle.table.specs.Tree.{ClosedTree}
 use Rattle.table.specs.ClosedFormula.{root-closed}
 use Rattle.semantics.specs.Limits.{Need, at-end, last-step, steps-to}
 use Rattle.semantics.specs.Machine.{State, End, Step, next, start}
@@ -21,9 +21,9 @@ use Rattle.semantics.specs.Close.{close-nothing}
 use Rattle.semantics.specs.Standing.{StateFor, evaluating, nothing-bound, nothing-around, stateWork}
 use Rattle.semantics.specs.Simulation.{Simulates, at-its-end, at-last, no-small-step, small-step, simulated}
 
-module _ {nd : Nodes} {n : ℕ} (t : Tree nd n) where
+module _ {nd : Nodes} {n : ℕ} (t : ClosedTree nd n) where
   start-stands : StateFor nd n start (expAt nd n 0)
-  start-stands = subst (StateFor nd n start) (close-nothing (expAt nd n 0)) (evaluating (t .root) nothing-bound nothing-around)
+  start-stands = subst (StateFor nd n start) (close-nothing (expAt nd n 0)) (evaluating (t .tree .root) nothing-bound nothing-around)
 
   -- ---- What the machine ends in is how the small steps end
 
@@ -39,9 +39,9 @@ module _ {nd : Nodes} {n : ℕ} (t : Tree nd n) where
   step-ends (small-step d stands) c onwards = ends-before d (onwards _ stands (step-stays-closed d c))
 
   ends-as : {s : State} {end : End} {i m : ℕ} (e : Exp) → EndsIn (next nd) s end i m → StateFor nd n s e → Closed e → EndsAs e (endAnswer end)
-  ends-as e (here p) stands c = at-end-ends (subst (Simulates nd n e _) p (simulated t stands c))
-  ends-as e (by-last-step p) stands c = last-step-ends (subst (Simulates nd n e _) p (simulated t stands c))
-  ends-as e (later p run) stands c = step-ends (subst (Simulates nd n e _) p (simulated t stands c)) c (λ e′ stands′ c′. ends-as e′ run stands′ c′)
+  ends-as e (here p) stands c = at-end-ends (subst (Simulates nd n e _) p (simulated (t .tree .descending) stands c))
+  ends-as e (by-last-step p) stands c = last-step-ends (subst (Simulates nd n e _) p (simulated (t .tree .descending) stands c))
+  ends-as e (later p run) stands c = step-ends (subst (Simulates nd n e _) p (simulated (t .tree .descending) stands c)) c (λ e′ stands′ c′. ends-as e′ run stands′ c′)
 
   pub ends-as-small-steps : {end : End} {i m : ℕ} → EndsIn (next nd) start end i m → EndsAs (expAt nd n 0) (endAnswer end)
   ends-as-small-steps run = ends-as (expAt nd n 0) run start-stands (root-closed t)
@@ -58,7 +58,7 @@ module _ {nd : Nodes} {n : ℕ} (t : Tree nd n) where
   to-small-step : (more : ℕ) {s : State} {e : Exp} → stateWork nd n s < more → StateFor nd n s e → Closed e →
       ((e′ : Exp) (s′ : State) → Small.Step e (Small.next e′) → StateFor nd n s′ e′ → Ends s′) → Ends s
   to-small-step zero less stands c onwards = absurd (omega arith)
-  to-small-step (suc more) {s} {e} less stands c onwards = go (next nd s) refl (simulated t stands c) (λ s′ h stands′. to-small-step more h stands′ c onwards)
+  to-small-step (suc more) {s} {e} less stands c onwards = go (next nd s) refl (simulated (t .tree .descending) stands c) (λ s′ h stands′. to-small-step more h stands′ c onwards)
     where
       go : (step : Step) → next nd s ≡ step → Simulates nd n e (stateWork nd n s) step →
           ((s′ : State) → stateWork nd n s′ < more → StateFor nd n s′ e → Ends s′) → Ends s

@@ -11,7 +11,7 @@ use Rattle.language.specs.Expression.{Name, Operator, Constant, unit-element, b
 use Rattle.language.specs.Integers.{Outcome, number, truth, exception, meaning}
 use Rattle.table.specs.Node.{Node, Nodes, constant-node, name-node, application-node, if-node, lambda-node, let-node, rec-node, Field, field-a, field-b, field-c, child, Kid}
 use Rattle.table.specs.Scope.{bindsIn, enter, scope, isNamed, firstNamed}
-use Rattle.table.specs.Tree.{Tree}
+use Rattle.table.specs.Tree.{ClosedTree}
 use Rattle.table.specs.TreeLaws.{climb-root, climb-kid}
 use Rattle.semantics.specs.Limits.{Need, nothing, at-end, last-step, steps-to}
 use Rattle.semantics.specs.Machine.{Value, unit-value, boolean-value, integer-value, operator-value, operator-with, operator-with-other, closure, Chain, empty, bound, rec-bound, Frame, State, evaluate, End, done, stuck-at, raised-by, Step, newestBinding, evaluated, constantValue, withFirst, resulted, completed, applied, chosen, returned, next, start}
@@ -79,14 +79,14 @@ with-value : {nd : Nodes} {n p : ℕ} {node : Node} {η : Chain} {x : Name} {v :
     Follows nd n (bound x v η) (p ∷ scope nd p)
 with-value env binds value = value-entry (rw (← node-is env) at binds) value (follows env)
 
-module _ {nd : Nodes} {n : ℕ} (t : Tree nd n) where
+module _ {nd : Nodes} {n : ℕ} (t : ClosedTree nd n) where
   -- The child's scope is its parent's, with the parent before it where the parent binds.
   enters : {p c : ℕ} {node : Node} {η η′ : Chain} (f : Field) → EnvironmentOf nd n p node η → child node f ≡ some c →
       Follows nd n η′ (cond (bindsIn node f) (p ∷ scope nd p) (scope nd p)) → EnvironmentOf nd n c (nd c) η′
   enters {p} {c} {η′ = η′} f env stands h =
       let kid : Kid nd p f c = record { stands = rw (node-is env) stands } in
-      let entered : Follows nd n η′ (scope nd c) = rw (climb-kid t [] (enter nd) (inside env) kid, node-is env) h in
-      environment (t .inside (inside env) kid) refl entered
+      let entered : Follows nd n η′ (scope nd c) = rw (climb-kid (t .tree) [] (enter nd) (inside env) kid, node-is env) h in
+      environment (t .tree .descending .inside (inside env) kid) refl entered
 
   abbrev LeadsOn : Step → Type 0
   LeadsOn = Leads nd n (StuckThere nd n)
@@ -153,7 +153,7 @@ module _ {nd : Nodes} {n : ℕ} (t : Tree nd n) where
   next-in-scope (return-in-scope value rest) = returned-in-scope value rest
 
   pub start-in-scope : InScope nd n start
-  start-in-scope = evaluate-in-scope (environment {η = empty} (t .root) refl (rw (climb-root [] (enter nd) nd) no-entry)) no-frame
+  start-in-scope = evaluate-in-scope (environment {η = empty} (t .tree .root) refl (rw (climb-root [] (enter nd) nd) no-entry)) no-frame
 
   pub steps-stay-in-scope : {s s′ : State} {need : Need} → next nd s ≡ steps-to need s′ → InScope nd n s → InScope nd n s′
   steps-stay-in-scope e h = rw e at (next-in-scope h)

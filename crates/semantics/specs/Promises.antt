@@ -14,7 +14,7 @@ use Rattle.language.specs.Environment.{empty}
 use Rattle.language.specs.Typing.{Has}
 use Rattle.table.specs.Node.{name-node, nodeAt}
 use Rattle.table.specs.ExpressionOf.{expOf}
-use Rattle.table.specs.Tree.{Checked}
+use Rattle.acceptance.specs.Checked.{Checked}
 use Rattle.semantics.specs.Limits.{Need, a-binding, a-frame, at-end, steps-to, fuel-limit, binding-limit, frame-limit, Room}
 use Rattle.semantics.specs.Machine.{Chain, Frame, State, evaluate, framesInUse, End, next, start}
 use Rattle.semantics.specs.Answer.{DefinedAnswer, exception-answer, stuck-answer, limit-answer, code, runTable}
@@ -56,14 +56,14 @@ module _ {words : List ℕ} {n : ℕ} (checked : Checked words n) where
 
   -- Along a run each environment is, entry by entry, the scope of its node, so that every name is found.
   start-in-scope : InScope (nodeAt words) n start
-  start-in-scope = InScopeLaws.start-in-scope (checked .tree)
+  start-in-scope = InScopeLaws.start-in-scope (checked .closed)
 
   steps-stay-in-scope : {s s′ : State} {need : Need} → next (nodeAt words) s ≡ steps-to need s′ → InScope (nodeAt words) n s → InScope (nodeAt words) n s′
-  steps-stay-in-scope = InScopeLaws.steps-stay-in-scope (checked .tree)
+  steps-stay-in-scope = InScopeLaws.steps-stay-in-scope (checked .closed)
 
   names-are-found : {k : ℕ} {x : Name} {η : Chain} {frames : List Frame} {e : End} → nodeAt words k ≡ name-node x → InScope (nodeAt words) n (evaluate k η frames)
       → ¬ (next (nodeAt words) (evaluate k η frames) ≡ at-end e)
-  names-are-found = InScopeLaws.names-are-found (checked .tree)
+  names-are-found = InScopeLaws.names-are-found (checked .closed)
 
 -- A run of any table that names what ran out stops for want of it. `ComesTo next start s steps bindings` says that the machine without limits
 -- comes to the state s in the steps and bindings of the run.

@@ -18,7 +18,7 @@ use Rattle.language.specs.Move as Moves
 use Rattle.language.specs.MoveDecides.{value-is-move, move-is-stuck}
 use Rattle.table.specs.Node.{Node, Nodes, constant-node, name-node, application-node, if-node, lambda-node, let-node, rec-node, Field, field-a, field-b, field-c, child, Kid}
 use Rattle.table.specs.ExpressionOf.{shape, expAt}
-use Rattle.table.specs.Tree.{Tree}
+use Rattle.table.specs.Tree.{Descending}
 use Rattle.table.specs.ExpressionLaws.{exp-is}
 use Rattle.semantics.specs.Limits.{Need, nothing, at-end, last-step, steps-to}
 use Rattle.semantics.specs.Machine.{Value, integer-value, operator-with-other, Chain, Frame, State, End, stuck-at, Step, constantValue, newestBinding, evaluated, withFirst, resulted, completed, applied, chosen, returned, next}
@@ -135,17 +135,17 @@ module _ {nd : Nodes} {n : ℕ} where
 
 -- ---- Evaluate
 
-module _ {nd : Nodes} {n : ℕ} (t : Tree nd n) where
+module _ {nd : Nodes} {n : ℕ} (descending : Descending nd n) where
   evaluate-simulated : {k : ℕ} {η : Chain} {σ : Replacement} {frames : List Frame} {context : Exp → Exp} → k < n → ChainFor nd n η σ →
       Around nd n frames context → Closed (context (close σ (expAt nd n k))) →
       Simulates nd n (context (close σ (expAt nd n k))) (work (expAt nd n k) + framesWork nd n frames) (evaluated (nd k) k η frames)
   unfolding close work framesWork
-  evaluate-simulated {k} {η} {σ} {frames} {context} below chain around c = rw (exp-is t k below) (go (nd k) refl)
+  evaluate-simulated {k} {η} {σ} {frames} {context} below chain around c = rw (exp-is descending k below) (go (nd k) refl)
     where
       inside : {node : Node} {j : ℕ} (f : Field) → nd k ≡ node → child node f ≡ some j → j < n
       inside {j} f e stands =
           let kid : Kid nd k f j = record { stands = rw e stands } in
-          t .inside below kid
+          descending .inside below kid
 
       go : (node : Node) → nd k ≡ node →
           Simulates nd n (context (close σ (shape (expAt nd n) node))) (work (shape (expAt nd n) node) + framesWork nd n frames) (evaluated node k η frames)
@@ -157,7 +157,7 @@ module _ {nd : Nodes} {n : ℕ} (t : Tree nd n) where
       go (lambda-node x b) e = no-small-step (returning (a-closure (inside field-b e refl) chain) around) (omega arith)
       go (let-node x e₁ e₂) e = no-small-step (evaluating (inside field-b e refl) chain (bound-in (inside field-c e refl) chain around)) (omega arith)
       go (rec-node x b) e =
-          let q : expAt nd n k ≡ rec x (expAt nd n b) = rw e at (exp-is t k below) in
+          let q : expAt nd n k ≡ rec x (expAt nd n b) = rw e at (exp-is descending k below) in
           small-step (steps-around around UNFOLD) (entered x _ (inside field-b e refl) chain (rec-binding below q (closed-inside around (rw q at c)) chain) around)
 
   pub simulated : {s : State} {e : Exp} → StateFor nd n s e → Closed e → Simulates nd n e (stateWork nd n s) (next nd s)

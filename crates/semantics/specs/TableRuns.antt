@@ -14,8 +14,8 @@ use Rattle.language.specs.Typing.{Has}
 use Rattle.language.specs.Safety.{safety}
 use Rattle.table.specs.Node.{Nodes, nodeAt}
 use Rattle.table.specs.ExpressionOf.{expAt, expOf}
-use Rattle.table.specs.Tree.{Checked}
-use Rattle.table.specs.Accepted.{count-is}
+use Rattle.acceptance.specs.Checked.{Checked}
+use Rattle.acceptance.specs.Accepted.{count-is}
 use Rattle.semantics.specs.Limits.{How, ended, ran-out, Room, AtLeast, run}
 use Rattle.semantics.specs.Machine.{End, done, stuck-at, raised-by, next, start, framesInUse}
 use Rattle.semantics.specs.Answer.{DefinedAnswer, exception-answer, stuck-answer, code, endAnswer, answerOf, wholeAnswer, runTable}
@@ -42,7 +42,7 @@ module _ {words : List ℕ} {n : ℕ} (checked : Checked words n) where
 
   -- What the machine without limits ends in is how the small steps end.
   ends-so : {end : End} {i m : ℕ} → EndsIn (next nd) start end i m → EndsAs e (endAnswer end)
-  ends-so {end} x = subst (λ (f : Exp). EndsAs f (endAnswer end)) root-is (EndsLikeSmallSteps.ends-as-small-steps (checked .tree) x)
+  ends-so {end} x = subst (λ (f : Exp). EndsAs f (endAnswer end)) root-is (EndsLikeSmallSteps.ends-as-small-steps (checked .closed) x)
 
   -- ---- Ends
 
@@ -93,7 +93,7 @@ module _ {words : List ℕ} {n : ℕ} (checked : Checked words n) where
 
   reached : {a : DefinedAnswer} → EndsAs e a → code a ≤ 15 → Reached words a
   reached {a} ends no-stuck =
-      let (end, i, m, x, alike) = EndsLikeSmallSteps.small-end-is-machine-end (checked .tree) (subst (λ (f : Exp). EndsAs f a) (sym root-is) ends) in
+      let (end, i, m, x, alike) = EndsLikeSmallSteps.small-end-is-machine-end (checked .closed) (subst (λ (f : Exp). EndsAs f a) (sym root-is) ends) in
       subst (Reached words) (sym (equal alike no-stuck)) (end-is-reached x)
     where
       equal : {a b : DefinedAnswer} → Alike a b → code a ≤ 15 → a ≡ b
@@ -134,4 +134,4 @@ module _ {words : List ℕ} {n : ℕ} (checked : Checked words n) where
       go (ran-out l) so is = absurd (let z : _≡_ {A = ℕ} 0 1 = cc in omega arith)
       go (ended end) so is =
           let x = LimitsLaws.ended-is-end (next nd) framesInUse room start so in
-          InScopeLaws.ends-stuck-at-application-or-if (checked .tree) (subst (λ (x : End). EndsIn (next nd) start x (run (next nd) framesInUse room start .steps) (run (next nd) framesInUse room start .made)) (only-stuck end is) x)
+          InScopeLaws.ends-stuck-at-application-or-if (checked .closed) (subst (λ (x : End). EndsIn (next nd) start x (run (next nd) framesInUse room start .steps) (run (next nd) framesInUse room start .made)) (only-stuck end is) x)

@@ -4,9 +4,8 @@ use mathlib.Core.Bool.{cond}
 use mathlib.Core.List.{List}
 use mathlib.Core.Option.{Option, none, some}
 use lib.Dec.{ltb}
-use Rattle.table.specs.Node.{wordAt, nodeAt}
+use Rattle.table.specs.Node.{wordAt, nodeAt, countOf}
 use Rattle.table.specs.Scope.{binderOf}
-use Rattle.table.specs.Refusals.{countOf}
 use Rattle.table.specs.declared.NodeWords.{NodeWords}
 use Rattle.table.specs.declared.Bound.{Bound}
 use Rattle.table.specs.declared.Bound.the-variants.{At, Nowhere}

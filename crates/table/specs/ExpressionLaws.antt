@@ -5,7 +5,7 @@ use mathlib.Core.Option.{some}
 use native.Mathlib.Omega.{arith}
 use Rattle.language.specs.Expression.{Exp, lambda, rec}
 use Rattle.table.specs.Node.{Node, Nodes, Field, field-a, field-b, field-c, child, Kid, constant-node, name-node, application-node, if-node, lambda-node, let-node, rec-node}
-use Rattle.table.specs.Tree.{Tree}
+use Rattle.table.specs.Tree.{Descending}
 use Rattle.table.specs.ExpressionOf.{shape, expFrom, expAt}
 
 -- A node's shape depends on the expressions at its children only.
@@ -18,7 +18,7 @@ shape-of-children (lambda-node x e) h = ap (lambda x) (h field-b e refl)
 shape-of-children (let-node x e₁ e₂) h = cc (h field-b e₁ refl, h field-c e₂ refl)
 shape-of-children (rec-node x e) h = ap (rec x) (h field-b e refl)
 
-module _ {nd : Nodes} {n : ℕ} (t : Tree nd n) where
+module _ {nd : Nodes} {n : ℕ} (d : Descending nd n) where
   -- As many levels as there are nodes from k on are enough.
   enough : (m m′ k : ℕ) → n ≤ k + m → n ≤ k + m′ → k < n → expFrom nd m k ≡ expFrom nd m′ k
   unfolding expFrom
@@ -27,8 +27,8 @@ module _ {nd : Nodes} {n : ℕ} (t : Tree nd n) where
   enough (suc m) (suc m′) k h h′ below =
       shape-of-children (nd k) λ f c stands.
       let kid : Kid nd k f c = record { stands = stands } in
-      let more : k < c = t .greater below kid in
-      enough m m′ c (omega arith) (omega arith) (t .inside below kid)
+      let more : k < c = d .greater below kid in
+      enough m m′ c (omega arith) (omega arith) (d .inside below kid)
 
   pub exp-is : (k : ℕ) → k < n → expAt nd n k ≡ shape (expAt nd n) (nd k)
   unfolding expFrom

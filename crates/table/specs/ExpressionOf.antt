@@ -2,8 +2,7 @@
 use Prim.Native.Nat.{ℕ, zero, suc}
 use mathlib.Core.List.{List}
 use Rattle.language.specs.Expression.{Exp, constant, name, app, if-then-else, lambda, let-in, rec, unit-element}
-use Rattle.table.specs.Node.{Node, Nodes, constant-node, name-node, application-node, if-node, lambda-node, let-node, rec-node, nodeAt}
-use Rattle.table.specs.Refusals.{countOf}
+use Rattle.table.specs.Node.{Node, Nodes, constant-node, name-node, application-node, if-node, lambda-node, let-node, rec-node, nodeAt, countOf}
 
 -- A node over the expressions at its children.
 abbrev pub shape : (ℕ → Exp) → Node → Exp

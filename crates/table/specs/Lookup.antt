@@ -1,7 +1,7 @@
 -- The walk in search of a binder, one node at a time.
 use Prim.Native.Nat.{ℕ, zero, suc, _*_, _-_, _/_, _≤_, _<_}
 use mathlib.Core.Path.{_≡_, refl, sym, _∙_, ap}
-use mathlib.Core.Bool.{Bool, true, false, not, cond, _&&_}
+use mathlib.Core.Bool.{Bool, true, false, cond, _&&_}
 use mathlib.Core.List.{List, [], _∷_}
 use mathlib.Core.Option.{Option, none, some}
 use native.Mathlib.Omega.{arith}
@@ -9,15 +9,11 @@ use Rattle.language.specs.Expression.{Name}
 use Rattle.table.specs.Node.{Nodes, Field, nodeAt}
 use Rattle.table.specs.Walk.{fieldHolding, climbFrom, atParent}
 use Rattle.table.specs.Scope.{bindsIn, enter, isNamed, firstNamed}
-use Rattle.table.specs.Refusals.{isSome, unbound}
-use Rattle.table.specs.Asked.{wordsAt}
 use Rattle.table.specs.Reading.{nodeFrom, metAs, metIn, met, walkedAs, walked, foundBelow}
-use Rattle.table.specs.NodeLaws.{read-name, read-no-name}
-use Rattle.table.specs.declared.NodeWords.{NodeWords}
 use Rattle.table.specs.declared.binders.Met.{Met}
 use Rattle.table.specs.declared.binders.Met.the-variants.{Elsewhere, Above, Binding}
-use Rattle.table.specs.declared.binders.Walked.{Walked}
-use Rattle.table.specs.declared.binders.Walked.the-variants.{Binder, On}
+use Rattle.table.specs.declared.Walked.{Walked}
+use Rattle.table.specs.declared.Walked.the-variants.{Binder, On}
 
 module _ (nd : Nodes) (x : Name) where
   -- What the walk from k finds, by how it meets node p.
@@ -113,12 +109,3 @@ module _ {words : List ℕ} {x : Name} {k : ℕ} where
           go Elsewhere is e = absurd (let z : _≡_ {A = ℕ} 0 1 = cc in omega arith)
           go Above is e = absurd (let z : _≡_ {A = ℕ} 0 1 = cc in omega arith)
           go Binding is e = sym (down Binding is)
-
--- ---- Code 4, by what the walk finds
-
-module _ (words : List ℕ) (k : ℕ) {w : NodeWords} (read : w ≡ wordsAt words k) where
-  pub no-name-unbound : (w .kind ≡ 4 → ⊥) → unbound (nodeAt words) k ≡ false
-  no-name-unbound h = rw (read-no-name words k (rw read at h)) refl
-
-  pub name-unbound : {found : Option ℕ} → w .kind ≡ 4 → foundBelow (nodeAt words) (w .a) k k ≡ found → unbound (nodeAt words) k ≡ not (isSome found)
-  name-unbound h e = rw (read-name words k (rw read at h)) (ap (λ o. not (isSome o)) (rw read at e))

@@ -1,11 +1,11 @@
 -- A node of a formula table as a value. Four words make a node: kind, a, b, c. Words enter here and in the refusals 1 and 2 only; all
 -- other theory is over `Nodes`.
-use Prim.Native.Nat.{ℕ, _+_, _*_}
+use Prim.Native.Nat.{ℕ, _+_, _*_, _/_}
 use mathlib.Core.List.{List, [], _∷_}
 use mathlib.Core.Option.{Option, none, some}
 use mathlib.Core.Path.{_≡_}
 use lib.Dec.{eqb}
-use lib.ListN.{getD}
+use lib.ListN.{length, getD}
 use Rattle.language.specs.Expression.{Name, Constant, unit-element, boolean, integer, operator}
 use Rattle.language.specs.Numbers.{operatorAt, signed}
 
@@ -80,3 +80,7 @@ wordAt words i = getD words i 0
 
 unfoldable pub nodeAt : List ℕ → Nodes
 nodeAt words k = nodeOf (wordAt words (4 * k)) (wordAt words (4 * k + 1)) (wordAt words (4 * k + 2)) (wordAt words (4 * k + 3))
+
+-- How many nodes a table has.
+abbrev pub countOf : List ℕ → ℕ
+countOf words = length words / 4

@@ -11,9 +11,8 @@ use borrow.Author.Tests.{ne-eqb}
 use Rattle.language.specs.Expression.{Constant, Name}
 use Rattle.table.specs.Node.{Node, constant-node, name-node, application-node, if-node, lambda-node, let-node, rec-node, Field, field-a, field-b, field-c, wordAt, nodeOf, nodeAt}
 use Rattle.table.specs.Scope.{bindsIn, isNamed, nameOf}
-use Rattle.table.specs.Refusals.{once, timesIn}
 use Rattle.table.specs.Asked.{wordsAt}
-use Rattle.table.specs.Reading.{nodeIn, childrenIn, nodeFrom, metIn, met, aboveIf, bindingIf, letMet}
+use Rattle.table.specs.Reading.{nodeIn, nodeFrom, metIn, met, aboveIf, bindingIf, letMet}
 use Rattle.table.specs.declared.NodeWords.{NodeWords}
 use Rattle.table.specs.declared.binders.Met.{Met}
 use Rattle.table.specs.declared.binders.Met.the-variants.{Elsewhere, Above}
@@ -48,68 +47,48 @@ leaf (suc (suc (suc (suc (suc (suc (suc (suc (suc (suc k)))))))))) a b c not5 no
 low-leaf : (kind a b c : ℕ) → kind < 5 → Leaf (nodeOf kind a b c)
 low-leaf kind a b c low = leaf kind a b c (λ e. omega arith) (λ e. omega arith) (⊎-elim (λ e. omega arith) (λ e. omega arith)) (λ e. omega arith)
 
-pub leaf-holds-nothing : {node : Node} → Leaf node → (k : ℕ) → timesIn node k ≡ 0
-leaf-holds-nothing a-constant k = refl
-leaf-holds-nothing a-name k = refl
-
-pub leaf-has-no-child : {node : Node} → Leaf node → childrenIn node ≡ 0
-leaf-has-no-child a-constant = refl
-leaf-has-no-child a-name = refl
-
 pub leaf-is-no-parent : {node : Node} → Leaf node → (x k : ℕ) → met node x k ≡ Elsewhere
 leaf-is-no-parent a-constant x k = refl
 leaf-is-no-parent a-name x k = refl
 
 -- ---- Kinds with children
 
-pub child-of-one : (kind a b c : ℕ) → (kind ≡ 7) ⊎ (kind ≡ 9) → childrenIn (nodeOf kind a b c) ≡ 1
-unfolding nodeOf
-child-of-one kind a b c (inl e) = rw e refl
-child-of-one kind a b c (inr e) = rw e refl
+module _ (kind a b c k : ℕ) (x : Name) where
+  -- A lambda and a rec have one child, in field b, and bind their name there.
+  met-lambda-or-rec : (t named : Bool) (node : Node) → bindsIn node field-b ≡ true → isNamed x node ≡ named → metIn (cond t (some field-b) none) x node ≡ bindingIf t named
+  met-lambda-or-rec true named node binds is = rw (binds, is)
+  met-lambda-or-rec false named node binds is = refl
 
-module _ (kind a b c k : ℕ) where
-  -- A lambda and a rec have one child, in field b.
-  pub one-child : (kind ≡ 7) ⊎ (kind ≡ 9) → timesIn (nodeOf kind a b c) k ≡ once (eqb b k)
+  pub lambda-or-rec-met : (kind ≡ 7) ⊎ (kind ≡ 9) → met (nodeOf kind a b c) x k ≡ bindingIf (eqb b k) (eqb a x)
   unfolding nodeOf
-  one-child (inl e) = rw e (omega arith)
-  one-child (inr e) = rw e (omega arith)
+  lambda-or-rec-met (inl e) = rw e (met-lambda-or-rec (eqb b k) (eqb a x) (lambda-node a b) refl refl)
+  lambda-or-rec-met (inr e) = rw e (met-lambda-or-rec (eqb b k) (eqb a x) (rec-node a b) refl refl)
 
-  module _ (x : Name) where
-    -- They bind their name there.
-    met-lambda-or-rec : (t named : Bool) (node : Node) → bindsIn node field-b ≡ true → isNamed x node ≡ named → metIn (cond t (some field-b) none) x node ≡ bindingIf t named
-    met-lambda-or-rec true named node binds is = rw (binds, is)
-    met-lambda-or-rec false named node binds is = refl
+  -- An application and an if bind nothing.
+  binds-nowhere : (node : Node) → ((f : Field) → bindsIn node f ≡ false) → (p q s : Bool) →
+      metIn (cond p (some field-a) (cond q (some field-b) (cond s (some field-c) none))) x node ≡ aboveIf p q s
+  binds-nowhere node nothing true q s = rw (nothing field-a)
+  binds-nowhere node nothing false true s = rw (nothing field-b)
+  binds-nowhere node nothing false false true = rw (nothing field-c)
+  binds-nowhere node nothing false false false = refl
 
-    pub lambda-or-rec-met : (kind ≡ 7) ⊎ (kind ≡ 9) → met (nodeOf kind a b c) x k ≡ bindingIf (eqb b k) (eqb a x)
-    unfolding nodeOf
-    lambda-or-rec-met (inl e) = rw e (met-lambda-or-rec (eqb b k) (eqb a x) (lambda-node a b) refl refl)
-    lambda-or-rec-met (inr e) = rw e (met-lambda-or-rec (eqb b k) (eqb a x) (rec-node a b) refl refl)
+  pub application-met : kind ≡ 5 → met (nodeOf kind a b c) x k ≡ aboveIf (eqb a k) (eqb b k) false
+  unfolding nodeOf
+  application-met e = rw e (binds-nowhere (application-node a b) (λ f. refl) (eqb a k) (eqb b k) false)
 
-    -- An application and an if bind nothing.
-    binds-nowhere : (node : Node) → ((f : Field) → bindsIn node f ≡ false) → (p q s : Bool) →
-        metIn (cond p (some field-a) (cond q (some field-b) (cond s (some field-c) none))) x node ≡ aboveIf p q s
-    binds-nowhere node nothing true q s = rw (nothing field-a)
-    binds-nowhere node nothing false true s = rw (nothing field-b)
-    binds-nowhere node nothing false false true = rw (nothing field-c)
-    binds-nowhere node nothing false false false = refl
+  pub if-met : kind ≡ 6 → met (nodeOf kind a b c) x k ≡ aboveIf (eqb a k) (eqb b k) (eqb c k)
+  unfolding nodeOf
+  if-met e = rw e (binds-nowhere (if-node a b c) (λ f. refl) (eqb a k) (eqb b k) (eqb c k))
 
-    pub application-met : kind ≡ 5 → met (nodeOf kind a b c) x k ≡ aboveIf (eqb a k) (eqb b k) false
-    unfolding nodeOf
-    application-met e = rw e (binds-nowhere (application-node a b) (λ f. refl) (eqb a k) (eqb b k) false)
-
-    pub if-met : kind ≡ 6 → met (nodeOf kind a b c) x k ≡ aboveIf (eqb a k) (eqb b k) (eqb c k)
-    unfolding nodeOf
-    if-met e = rw e (binds-nowhere (if-node a b c) (λ f. refl) (eqb a k) (eqb b k) (eqb c k))
-
-    -- A let binds in field c, and field b is looked at first.
-    pub let-met : kind ≡ 8 → met (nodeOf kind a b c) x k ≡ letMet (eqb b k) (eqb c k) (eqb a x)
-    unfolding nodeOf
-    let-met e = rw e (go (eqb b k) (eqb c k))
-      where
-        go : (p q : Bool) → metIn (cond p (some field-b) (cond q (some field-c) none)) x (let-node a b c) ≡ letMet p q (eqb a x)
-        go true q = refl
-        go false true = refl
-        go false false = refl
+  -- A let binds in field c, and field b is looked at first.
+  pub let-met : kind ≡ 8 → met (nodeOf kind a b c) x k ≡ letMet (eqb b k) (eqb c k) (eqb a x)
+  unfolding nodeOf
+  let-met e = rw e (go (eqb b k) (eqb c k))
+    where
+      go : (p q : Bool) → metIn (cond p (some field-b) (cond q (some field-c) none)) x (let-node a b c) ≡ letMet p q (eqb a x)
+      go true q = refl
+      go false true = refl
+      go false false = refl
 
 -- It is enough that one field holds the child.
 pub second-holds : (p s : Bool) → aboveIf p true s ≡ Above

@@ -1,40 +1,19 @@
 -- What is proved of the formula table, in one place. Each promise is restated here over the definitions alone; the file that proves it is
--- the one that its proof cites. That the code's `check` and `binder` are these definitions stands in their contracts (src/lib.rt).
+-- the one that its proof cites. That the code's `binder` and `read` are their definitions stands in their contracts (src/).
 use Prim.Native.Nat.{ℕ, _<_}
 use mathlib.Core.Path.{_≡_}
-use mathlib.Core.Logic.{_↔_}
-use mathlib.Core.List.{List}
 use mathlib.Core.Option.{some}
 use Rattle.language.specs.Expression.{Name, Free, Closed}
 use Rattle.table.specs.Node.{Nodes, Field, Kid}
 use Rattle.table.specs.Walk.{climb}
 use Rattle.table.specs.Scope.{scope, firstNamed}
-use Rattle.table.specs.Refusals.{checkOf, checkCode, checkPlace}
-use Rattle.table.specs.RefusedFor.{RefusedFor}
-use Rattle.table.specs.ExpressionOf.{shape, expAt, expOf}
-use Rattle.table.specs.Tree.{Tree, Checked}
+use Rattle.table.specs.ExpressionOf.{shape, expAt}
+use Rattle.table.specs.Tree.{Descending, Tree, ClosedTree}
 use Rattle.table.specs.TreeLaws as TreeLaws
 use Rattle.table.specs.ExpressionLaws as ExpressionLaws
-use Rattle.table.specs.Accepted as Accepted
-use Rattle.table.specs.RefusalsExactly as RefusalsExactly
 use Rattle.table.specs.ClosedFormula as ClosedFormula
-use Rattle.table.specs.declared.Verdict.the-variants.{Accepted as Accepts}
 
--- ---- What the codes mean
-
--- The check accepts a table with n nodes exactly if its length, its fields, its tree and its names are in order.
-accepts-exactly-checked : (words : List ℕ) (n : ℕ) → (checkOf words ≡ Accepts n) ↔ Checked words n
-accepts-exactly-checked words n = (Accepted.accepted-is-checked words n, Accepted.checked-is-accepted words n)
-
--- The same in the paper's numbers: code 0, with the node count as its place.
-code-0-exactly : (words : List ℕ) (n : ℕ) → ((checkCode (checkOf words) ≡ 0) × (checkPlace (checkOf words) ≡ n)) ↔ Checked words n
-code-0-exactly = RefusalsExactly.code-0-exactly
-
--- Every other code is answered exactly in its case, and with its place.
-codes-1-to-4-exactly : (words : List ℕ) (code place : ℕ) → 0 < code → ((checkCode (checkOf words) ≡ code) × (checkPlace (checkOf words) ≡ place)) ↔ RefusedFor words code place
-codes-1-to-4-exactly = RefusalsExactly.codes-1-to-4-exactly
-
--- ---- A checked table as a tree
+-- ---- A tree
 
 module _ {nd : Nodes} {n : ℕ} (t : Tree nd n) where
   -- What a walk carries at a child is one step of what it carries at the parent.
@@ -48,15 +27,19 @@ module _ {nd : Nodes} {n : ℕ} (t : Tree nd n) where
   up : (P : ℕ → Type 0) → ((k : ℕ) → k < n → ((f : Field) (c : ℕ) → Kid nd k f c → P c) → P k) → (k : ℕ) → k < n → P k
   up = TreeLaws.up t
 
-  -- The expression at a node is its shape over the expressions at its children.
-  exp-is : (k : ℕ) → k < n → expAt nd n k ≡ shape (expAt nd n) (nd k)
-  exp-is = ExpressionLaws.exp-is t
+-- ---- The expression at a node
 
+-- It is the node's shape over the expressions at its children, where these have greater numbers.
+exp-is : {nd : Nodes} {n : ℕ} → Descending nd n → (k : ℕ) → k < n → expAt nd n k ≡ shape (expAt nd n) (nd k)
+exp-is = ExpressionLaws.exp-is
+
+-- ---- A tree in which every name is bound
+
+module _ {nd : Nodes} {n : ℕ} (closed : ClosedTree nd n) where
   -- A free name of the expression at a node is bound in that node's scope.
   free-is-bound : (k : ℕ) → k < n → (x : Name) → Free x (expAt nd n k) → (b : ℕ) × (firstNamed nd x (scope nd k) ≡ some b)
-  free-is-bound = ClosedFormula.free-is-bound t
+  free-is-bound = ClosedFormula.free-is-bound closed
 
--- ---- The formula
-
-formula-closed : (words : List ℕ) (n : ℕ) → Checked words n → Closed (expOf words)
-formula-closed = ClosedFormula.formula-closed
+  -- So the root's expression is closed.
+  root-closed : Closed (expAt nd n 0)
+  root-closed = ClosedFormula.root-closed closed

@@ -1,19 +1,17 @@
 -- The table as the code reads it: a node in four words, and what a walk sees of it.
-use Prim.Native.Nat.{ℕ, zero, suc, _+_, _*_}
-use mathlib.Core.Bool.{Bool, true, false, not, _&&_}
+use Prim.Native.Nat.{ℕ, _+_}
+use mathlib.Core.Bool.{Bool, true, false, _&&_}
 use mathlib.Core.List.{List, []}
 use mathlib.Core.Option.{Option, none, some}
-use lib.Dec.{eqb}
 use Rattle.language.specs.Expression.{Name}
-use Rattle.table.specs.Node.{Node, Nodes, Field, field-a, field-b, field-c, child, wordAt, nodeOf}
+use Rattle.table.specs.Node.{Node, Nodes, Field, wordAt, nodeOf}
 use Rattle.table.specs.Walk.{fieldHolding, climbFrom}
 use Rattle.table.specs.Scope.{bindsIn, enter, isNamed, firstNamed}
-use Rattle.table.specs.Refusals.{once, timesBelow, isSome}
 use Rattle.table.specs.declared.NodeWords.{NodeWords}
 use Rattle.table.specs.declared.binders.Met.{Met}
 use Rattle.table.specs.declared.binders.Met.the-variants.{Elsewhere, Above, Binding}
-use Rattle.table.specs.declared.binders.Walked.{Walked}
-use Rattle.table.specs.declared.binders.Walked.the-variants.{Binder, On}
+use Rattle.table.specs.declared.Walked.{Walked}
+use Rattle.table.specs.declared.Walked.the-variants.{Binder, On}
 
 -- ---- A node
 
@@ -23,12 +21,6 @@ nodeIn w = nodeOf (w .kind) (w .a) (w .b) (w .c)
 -- The node in words i to i + 3.
 abbrev pub nodeFrom : List ℕ → ℕ → Node
 nodeFrom words i = nodeOf (wordAt words i) (wordAt words (i + 1)) (wordAt words (i + 2)) (wordAt words (i + 3))
-
--- ---- Parents
-
--- Parents have smaller numbers, so it is enough to look for them below the node.
-abbrev pub misplacedBelow : Nodes → ℕ → Bool
-misplacedBelow nd k = not (eqb k 0) && not (eqb (timesBelow nd k k) 1)
 
 -- ---- Binders
 
@@ -71,13 +63,3 @@ letMet false body named = bindingIf body named
 -- What the walk from `current` finds among the nodes below p.
 abbrev pub foundBelow : Nodes → Name → ℕ → ℕ → Option ℕ
 foundBelow nd x current p = firstNamed nd x (climbFrom [] (enter nd) nd current p)
-
--- ---- Children
-
--- How many children fields a node has, and all nodes below n.
-abbrev pub childrenIn : Node → ℕ
-childrenIn node = once (isSome (child node field-a)) + once (isSome (child node field-b)) + once (isSome (child node field-c))
-
-unfoldable pub childrenBelow : Nodes → ℕ → ℕ
-childrenBelow nd zero = 0
-childrenBelow nd (suc n) = childrenBelow nd n + childrenIn (nd n)

@@ -51,7 +51,7 @@ module _ {nd : Nodes} {n : ℕ} (t : Tree nd n) where
   -- The walk from a child passes the nodes above the parent and takes its step at the parent.
   pub climb-kid : {A : Type 0} (top : A) (step : ℕ → Field → A → A) {p c : ℕ} {f : Field} → p < n → Kid nd p f c → climb top step nd c ≡ step p f (climb top step nd p)
   unfolding climbFrom
-  climb-kid {A} top step {p} {c} {f} below kid = past c (t .greater below kid) (omega (arith, t .inside below kid))
+  climb-kid {A} top step {p} {c} {f} below kid = past c (t .descending .greater below kid) (omega (arith, t .descending .inside below kid))
     where
       result : A
       result = step p f (climb top step nd p)
@@ -83,7 +83,7 @@ module _ {nd : Nodes} {n : ℕ} (t : Tree nd n) where
           go (yes q) before = rw (← q) at-root
           go (no q) before =
               let (p, f, inside, kid) = t .parent k (omega arith) h in
-              to-kid p f k inside kid (before p (omega (arith, t .greater inside kid)) inside)
+              to-kid p f k inside kid (before p (omega (arith, t .descending .greater inside kid)) inside)
 
   -- From the leaves.
   pub up : (P : ℕ → Type 0) → ((k : ℕ) → k < n → ((f : Field) (c : ℕ) → Kid nd k f c → P c) → P k) → (k : ℕ) → k < n → P k
@@ -91,4 +91,4 @@ module _ {nd : Nodes} {n : ℕ} (t : Tree nd n) where
     where
       above : (m k : ℕ) → n ≤ k + m → k < n → P k
       above zero k low h = absurd (omega arith)
-      above (suc m) k low h = from-kids k h (λ f c kid. above m c (omega (arith, t .greater h kid)) (t .inside h kid))
+      above (suc m) k low h = from-kids k h (λ f c kid. above m c (omega (arith, t .descending .greater h kid)) (t .descending .inside h kid))

@@ -1,6 +1,6 @@
-// Code 4: a name has no binder; and the walk that finds one.
+// The walk that finds a name's binder.
 use crate::Bound;
-use crate::Verdict;
+use crate::Walked;
 use crate::nodes::node_at;
 ghost use Prim.Native.Nat.{_+_, _*_, _/_, _≤_, _<_};
 ghost use mathlib.Core.Path.{_≡_};
@@ -9,7 +9,6 @@ ghost use lib.Dec.{eqb};
 ghost use lib.ListN.{length};
 ghost use Rattle.table.specs.Node.{wordAt, nodeAt};
 ghost use Rattle.table.specs.Scope.{scope, firstNamed};
-ghost use Rattle.table.specs.Refusals.{unbound, firstFrom, refuseAt};
 ghost use Rattle.table.specs.Asked.{binderAnswer, binderIn};
 ghost use Rattle.table.specs.Reading.{nodeFrom, metAs, aboveIf, bindingIf, letMet, met, walked};
 ghost use Rattle.table.specs.NodeLaws.{Passed};
@@ -117,16 +116,8 @@ fn mentions(words: &[u32], i: usize, k: u32) -> bool
     words[i + 1] == k
 }
 
-// What the walk comes to at a node.
-enum Walked {
-    // The binder of the name.
-    Binder,
-    // It goes on in search of the parent of that node.
-    On(u32),
-}
-
 // One step of the walk in search of the binder of x: the node at word i.
-fn walk_at(words: &[u32], i: usize, x: u32, current: u32) -> Walked
+pub fn walk_at(words: &[u32], i: usize, x: u32, current: u32) -> Walked
     requires { ⌜ (i + 4 ≤ length (now words)) × (i / 4 < 4294967296) ⌝ }
     ensures { λ r. ⌜ r ≡ walked (nodeFrom (now (words .entry)) i) x current (i / 4) ⌝ }
 {
@@ -159,40 +150,6 @@ fn lookup(words: &[u32], x: u32, k: u32) -> Bound
         current = next;
     }
     Bound::Nowhere
-}
-
-// Code 4: the smallest name from which the walk comes to no binder.
-pub(crate) fn names(words: &[u32], n: u32) -> Verdict
-    requires { ⌜ 4 * n ≤ length (now words) ⌝ }
-    ensures { λ r. ⌜ r ≡ refuseAt 4 (firstFrom (unbound (nodeAt (now (words .entry)))) n 0) (Verdict.Accepted n) ⌝ }
-{
-    let mut k: u32 = 0;
-    'nodes: loop {
-        if n <= k {
-            break 'nodes Verdict::Accepted(n);
-        }
-        let w = node_at(words, k);
-        let kind = w.kind;
-        if kind != 4 {
-            k += 1;
-            continue 'nodes;
-        }
-        let x = w.a;
-        let mut current = k;
-        let mut i = 4 * (k as usize);
-        loop {
-            if i == 0 {
-                break 'nodes Verdict::Refused { code: 4, place: k };
-            }
-            i -= 4;
-            let walked = walk_at(words, i, x, current);
-            let Walked::On(next) = walked else {
-                break;
-            };
-            current = next;
-        }
-        k += 1;
-    }
 }
 
 // The binder of the name at node k.

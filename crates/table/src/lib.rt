@@ -1,28 +1,24 @@
-// The formula table: the check (refusals 1 to 4), the binder of a name and the words of a node. A table is a slice of words, four for each
-// node.
+// The formula table: the words of a node and the binder of a name. A table is a slice of words, four for each node.
 mod binders;
 mod nodes;
-mod rules;
-mod tree;
 
 pub use binders::binder;
+pub use binders::walk_at;
+pub use nodes::node_at;
 pub use nodes::read;
-ghost use mathlib.Core.Path.{_≡_};
-ghost use lib.ListN.{length};
-ghost use Rattle.table.specs.Refusals.{miscount, countOf, refuseAt, checkOf};
-
-// What the check of a table answers.
-pub enum Verdict {
-    // The table is in order, with so many nodes.
-    Accepted(u32),
-    // The first refusal in order, with the smallest place.
-    Refused { code: u32, place: u32 },
-}
 
 // Where a name is bound.
 pub enum Bound {
     At(u32),
     Nowhere,
+}
+
+// What the walk in search of a binder comes to at a node.
+pub enum Walked {
+    // The binder of the name.
+    Binder,
+    // It goes on in search of the parent of that node.
+    On(u32),
 }
 
 // The four words of a node.
@@ -31,40 +27,4 @@ pub struct NodeWords {
     pub a: u32,
     pub b: u32,
     pub c: u32,
-}
-
-// Code 1, or the node count.
-fn count(words: &[u32]) -> Verdict
-    ensures { λ r. ⌜ r ≡ refuseAt 1 (miscount (length (now (words .entry)))) (Verdict.Accepted (countOf (now (words .entry)))) ⌝ }
-{
-    let l = words.len();
-    match l {
-        1..=2048 => {
-            if l % 4 == 0 {
-                Verdict::Accepted((l / 4) as u32)
-            } else {
-                Verdict::Refused { code: 1, place: 0 }
-            }
-        }
-        _ => Verdict::Refused { code: 1, place: 0 },
-    }
-}
-
-// The check of a table: the first refusal in order, or the node count.
-pub fn check(words: &[u32]) -> Verdict
-    ensures { λ r. ⌜ r ≡ checkOf (now (words .entry)) ⌝ }
-{
-    let counted = count(words);
-    let Verdict::Accepted(n) = counted else {
-        return counted;
-    };
-    let fielded = rules::fields(words, n);
-    let Verdict::Accepted(_) = fielded else {
-        return fielded;
-    };
-    let placed = tree::rooted(words, n);
-    let Verdict::Accepted(_) = placed else {
-        return placed;
-    };
-    binders::names(words, n)
 }

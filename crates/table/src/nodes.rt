@@ -6,7 +6,8 @@ ghost use lib.ListN.{length};
 ghost use Rattle.table.specs.Node.{wordAt};
 ghost use Rattle.table.specs.Asked.{wordsAt};
 
-pub(crate) fn node_at(words: &[u32], k: u32) -> NodeWords
+// The words of a node that is there.
+pub fn node_at(words: &[u32], k: u32) -> NodeWords
     requires { ⌜ 4 * k + 4 ≤ length (now words) ⌝ }
     ensures { λ r. ⌜ r ≡ wordsAt (now (words .entry)) k ⌝ }
 {

@@ -1,6 +1,6 @@
 // The call `check`. Its line: code and place, where the place of acceptance is the node count.
 use crate::lines;
-use table::Verdict;
+use acceptance::Verdict;
 
 fn begin(v: Verdict) {
     match v {
@@ -11,7 +11,7 @@ fn begin(v: Verdict) {
 
 // Makes a check. It lends nothing, so that it can always be made.
 pub(crate) fn check(words: &[u32]) -> bool {
-    begin(table::check(words));
+    begin(acceptance::check(words));
     lines::end();
     true
 }

@@ -36,16 +36,20 @@ cast-p c = omega arith
 
 returns : tie.Need-returns Inv-loop μ-loop
 returns c =
-    let w = c .before .before .before .before .loop .inv in
-    ap binderAnswer (sym (walk-finds w (c .before .before .before .loop-test .taken) (c .before .before .walk-at .ensures) (c .enum-told .given .1)))
+    let walked = c .before .before in
+    let tested = walked .before in
+    let w = tested .before .loop .inv in
+    ap binderAnswer (sym (walk-finds w (tested .loop-test .taken) (walked .walk-at .ensures) (c .enum-told .given .1)))
 
 loop-less : tie.Need-loop-less Inv-loop μ-loop
 loop-less c = omega arith
 
 loop-again : tie.Need-loop-again Inv-loop μ-loop
 loop-again c =
-    let w = c .before .before .before .before .before .loop .inv in
-    walk-goes-on w (c .before .before .before .before .loop-test .taken) (c .before .before .before .walk-at .ensures) (c .before .walked .given .1)
+    let walked = c .before .before .before in
+    let tested = walked .before in
+    let w = tested .before .loop .inv in
+    walk-goes-on w (tested .loop-test .taken) (walked .walk-at .ensures) (c .before .walked .given .1)
 
 returns-2 : tie.Need-returns-2 Inv-loop μ-loop
 returns-2 c = ap binderAnswer (sym (walk-ends (c .before .loop .inv) (c .loop-test .left)))

@@ -1,0 +1,59 @@
+-- `acceptance::parents::children` meets its contract. The loop's invariant: `count` is what the nodes passed have.
+use Prim.Native.Nat.{_-_, _*_, _≤_}
+use mathlib.Core.Path.{_≡_, sym}
+use native.Mathlib.Omega.{arith}
+use Rattle.table.specs.Node.{nodeAt}
+use Rattle.acceptance.specs.Counting.{childrenBelow}
+use Rattle.acceptance.specs.Placed.{no-children-yet, children-next}
+use Rattle.acceptance.proofs.parents.children.Statement.{statement}
+use Rattle.acceptance.proofs.parents.children.Tie as tie
+
+abbrev Inv-loop : tie.InvT-loop
+Inv-loop words n count₀ p₀ count p = (p ≤ n) × (count ≡ childrenBelow (nodeAt words) p) × (count ≤ 3 * p)
+
+abbrev μ-loop : tie.MeasureT-loop
+μ-loop words n count₀ p₀ count p = n - p
+
+loop-holds : tie.Need-loop-holds Inv-loop μ-loop
+loop-holds c = (omega arith, sym (no-children-yet (nodeAt (c .before .args .words .now))), omega arith)
+
+children-at-requires : tie.Need-children-at-requires Inv-loop μ-loop
+children-at-requires c κs = omega arith
+
+cast-count : tie.Need-cast-count Inv-loop μ-loop
+cast-count c = omega (arith, c .children-at .ensures .1)
+
+add-count : tie.Need-add-count Inv-loop μ-loop
+add-count c = omega (arith, c .children-at .ensures .1, c .before .before .loop .inv .2, c .before .loop-test .taken, c .before .before .before .before .fits .n)
+
+add-p : tie.Need-add-p Inv-loop μ-loop
+add-p c = omega arith
+
+loop-less : tie.Need-loop-less Inv-loop μ-loop
+loop-less c = omega arith
+
+loop-again : tie.Need-loop-again Inv-loop μ-loop
+loop-again c =
+    let at = c .before .before in
+    let next = children-next (nodeAt (at .before .before .args .words .now)) (at .loop .p) in
+    (omega arith, omega arith, omega arith)
+
+returns : tie.Need-returns Inv-loop μ-loop
+returns c =
+    let all : c .before .loop .p ≡ c .before .before .before .args .n = omega arith in
+    (rw all at (c .before .loop .inv .1), omega arith)
+
+pub children-spec : {M : Type 1} → statement M
+children-spec =
+    tie.close
+    (tie.spec
+    Inv-loop
+    μ-loop
+    loop-holds
+    children-at-requires
+    cast-count
+    add-count
+    add-p
+    loop-less
+    loop-again
+    returns)

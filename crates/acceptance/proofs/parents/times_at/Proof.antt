@@ -1,0 +1,18 @@
+-- `acceptance::parents::times_at` meets its contract: the count is made of the node's words.
+use borrow.Author.Needs.{needs}
+use Rattle.table.specs.Node.{nodeAt}
+use Rattle.acceptance.proofs.parents.times_at.Statement.{statement}
+use Rattle.acceptance.proofs.parents.times_at.Tie as tie
+
+node-at-requires : tie.Need-node-at-requires
+node-at-requires c κs = search needs
+
+times-in-requires : tie.Need-times-in-requires
+times-in-requires c κs = search needs
+
+returns : tie.Need-returns
+unfolding nodeAt
+returns c = rw (c .before .node-at .ensures) at (c .times-in .ensures)
+
+pub times-at-spec : {M : Type 1} → statement M
+times-at-spec = tie.close (tie.spec node-at-requires times-in-requires returns)
