@@ -1,6 +1,6 @@
 #!/usr/bin/env python3
-"""Every public function has a contract, no `requires`, and a row of docs/PROMISES.md with two wrong answers that are edits of its crate; no
-proof has an axiom.
+"""Every public function has a contract and a row of docs/PROMISES.md with two wrong answers that are edits of its crate; none has a `requires`
+but a part, that is one whose row stands under "Parts" and that another crate calls; no proof has an axiom.
 
 A function is public that is `pub` or has a C name, wherever it stands: also in a private module, whether or not it is exported again."""
 import glob
@@ -91,10 +91,35 @@ impl T { pub fn method<'a>(&'a self) -> char ensures {
 """) == [("plain", ["ensures"]), ("tall", ["requires", "ensures"]), ("c_name", []), ("without_pub", ["ensures"]), ("method", ["ensures"])]
 
 
-def faults_of(path, function, kinds, row):
+# ---- The page
+
+PAGE = "docs/PROMISES.md"
+ROW = re.compile(r"(?m)^\| `(\w+::\w+)` \|.*$")
+
+
+def rows_in(page):
+    return {match.group(1): match.group() for match in ROW.finditer(page)}
+
+
+def parts_in(page):
+    """The functions that are public for another crate of this repository only."""
+    return set(rows_in(re.split(r"(?m)^#+ ", page.partition("\n### Parts\n")[2])[0]))
+
+
+assert parts_in("| `a::b` | x |\n### Parts\n| `c::d` | x |\n## More\n| `e::f` | x |\n") == {"c::d"}
+
+
+def is_called_elsewhere(crate, function):
+    others = [path for path in glob.glob("crates/*/src/**/*.rt", recursive=True) if path.split(os.sep)[1] != crate]
+    return any(re.search(r"\b%s::%s\b" % (crate, function), bare(open(path, encoding="utf-8").read())) for path in others)
+
+
+def faults_of(path, function, kinds, row, is_part):
     crate = path.split(os.sep)[1]
-    if "requires" in kinds:
+    if "requires" in kinds and not is_part:
         yield "%s: %s has a requires" % (path, function)
+    if is_part and not is_called_elsewhere(crate, function):
+        yield "%s: %s is a part that no other crate calls" % (path, function)
     if "ensures" not in kinds:
         yield "%s: %s has no ensures" % (path, function)
     labels = re.findall(r"`(\w+)`", row.rstrip("| ").split("|")[-1])
@@ -102,24 +127,26 @@ def faults_of(path, function, kinds, row):
         yield "%s: %s has no row with two wrong answers" % (path, function)
     for label in labels:
         if not os.path.exists("crates/%s/must-fail/%s.edit" % (crate, label)):
-            yield "docs/PROMISES.md: %s::%s: %s is no edit of crates/%s" % (crate, function, label, crate)
+            yield "%s: %s::%s: %s is no edit of crates/%s" % (PAGE, crate, function, label, crate)
 
 
 def main():
-    faults, functions = [], 0
-    page = open("docs/PROMISES.md", encoding="utf-8").read()
-    rows = {row.split("`")[1]: row for row in page.split("\n") if re.match(r"\| `\w+::\w+` \|", row)}
+    faults, calls = [], 0
+    page = open(PAGE, encoding="utf-8").read()
+    rows, parts = rows_in(page), parts_in(page)
     for path in sorted(glob.glob("crates/*/src/**/*.rt", recursive=True)):
         for function, kinds in public_functions(open(path, encoding="utf-8").read()):
-            functions += 1
-            faults += faults_of(path, function, kinds, rows.pop("%s::%s" % (path.split(os.sep)[1], function), ""))
-    faults += ["docs/PROMISES.md: there is no public function %s" % row for row in rows]
+            name = "%s::%s" % (path.split(os.sep)[1], function)
+            calls += name not in parts
+            faults += faults_of(path, function, kinds, rows.pop(name, ""), name in parts)
+    faults += ["%s: there is no public function %s" % (PAGE, name) for name in rows]
     for path in sorted(glob.glob("crates/**/*.antt", recursive=True)):
         if re.search(r"(?m)^axiom |Prim\.Axiom", open(path, encoding="utf-8").read()):
             faults.append("%s has an axiom" % path)
-    if faults or not functions:
+    if faults or not calls:
         sys.exit("\n".join(faults) or "no public function was found")
-    print("%d public functions have a contract, no requires and two wrong answers of their crate; no axiom" % functions)
+    print("%d public functions have a contract and no requires, %d parts a contract; each has two wrong answers of its crate; no axiom"
+          % (calls, len(parts)))
 
 
 if __name__ == "__main__":

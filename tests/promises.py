@@ -1,11 +1,12 @@
 #!/usr/bin/env python3
-"""Holds docs/PROMISES.md to the files: each file is there, each name that follows a file is declared in it, each edit is there; and its
-first table lists the files that there are to believe, no more and no less, in which nothing is declared that no promise needs.
+"""Holds docs/PROMISES.md and docs/RULES.md to the files: each file is there, each name that follows a file is declared in it, each edit is
+there; the first table of the promises lists the files that there are to believe, no more and no less, in which nothing is declared that no
+promise needs; and the rules cite each of these files, so that each definition can be held against its rule.
 
 usage: promises.py, or promises.py --why FILE for the way from a row or a public function to a file that is to be believed
 
 A citation is `path`: `name`, `name`, ..; a `word_like_this` in a last column is an edit of some crate's must-fail/. What a cited theorem
-states, the whole text of a cited definition, and the contracts of the cited and of all public functions are to be believed, and with them
+states, the whole text of a cited definition, and the contracts of the cited and of all public functions but parts are to be believed, and with them
 the whole text of every definition that they mention, and so on. A citation after the words "by way of" in a cell leads readers of
 proofs and is not followed."""
 import glob
@@ -15,10 +16,10 @@ import sys
 
 sys.path.insert(0, os.path.dirname(os.path.abspath(__file__)))
 os.chdir(os.path.join(sys.path[0], ".."))
-from contracts import functions  # noqa: E402
+from contracts import functions, parts_in  # noqa: E402
 from definitions import Specs  # noqa: E402
 
-PAGE = "docs/PROMISES.md"
+PAGE, RULES = "docs/PROMISES.md", "docs/RULES.md"
 CITATION = re.compile(r"`(crates/[^`]+)`: ((?:`[^`]+`(?:, )?)+)")
 
 
@@ -69,7 +70,7 @@ class Believed:
 
     def __init__(self, page):
         self.specs, self.mentioned_by, self.plain = Specs(), {}, []
-        self.reach(list(self.from_page(page)) + list(self.from_public_functions()))
+        self.reach(list(self.from_page(page)) + list(self.from_public_functions(parts_in(page))))
 
     def from_page(self, page):
         for cell in cells_of(page):
@@ -82,10 +83,11 @@ class Believed:
                     found = [declaration] if declaration.is_definition() else self.specs.mentioned_by(declaration, whole=False)
                     yield from ((origin, each) for each in found)
 
-    def from_public_functions(self):
+    def from_public_functions(self, parts):
+        """What a part says, its callers' proofs use and nobody has to believe."""
         for path in sorted(glob.glob("crates/*/src/**/*.rt", recursive=True)):
             for name, public, _ in functions(read(path)):
-                if public:
+                if public and "%s::%s" % (path.split(os.sep)[1], name) not in parts:
                     yield from self.of_contract("public: %s: %s" % (path, name), path, name)
 
     def of_contract(self, origin, path, name):
@@ -138,8 +140,10 @@ def main():
     if sys.argv[1:2] == ["--why"]:
         print("\n\n".join("\n  -> ".join(way) for way in believed.ways_to(sys.argv[2])) or "nothing needs %s" % sys.argv[2])
         return
+    rules = read(RULES)
     edits, missing = missing_edits(page)
-    missing += missing_citations(page) + list(believed.differences(listed)) + list(believed.unreached(listed))
+    missing += missing_citations(page) + missing_citations(rules) + list(believed.differences(listed)) + list(believed.unreached(listed))
+    missing += ["%s: no rule cites %s" % (RULES, path) for path in sorted(listed - {path for path, _ in cited(rules)})]
     names = len(cited(page))
     if missing or names < 20:
         sys.exit("\n".join(missing) or "only %d names are cited" % names)
