@@ -1,4 +1,4 @@
--- The bench formulas P1 to P12, with what the scope states of each; then rows for 11, 12, 16 at an if, and 19, which none of them gives.
+-- The bench formulas P1 to P12, with what the rules state of each; then what none of them gives.
 use Prim.Native.Nat.{ℕ}
 use mathlib.Core.List.{List, [], _∷_}
 use lib.IntN.{pos, negℤ}
@@ -6,7 +6,7 @@ use mir.Syntax.{w32}
 use mir.Val.{ofZ}
 use Rattle.bench.specs.Bench.{Row, inference, run}
 
--- ---- The calls, with the program's sizes where the paper names no others
+-- ---- The calls, with the program's sizes where a row names no others
 
 abbrev typesIn : ℕ → List ℕ → List ℕ → Row
 typesIn out table stated = record { table = table; call = inference out; stated = stated }
@@ -134,6 +134,15 @@ if-on-integer =
     2 ∷ 2 ∷ 0 ∷ 0 ∷
     2 ∷ 3 ∷ 0 ∷ 0 ∷ []
 
+-- = true true
+abbrev equal-true-true : List ℕ
+equal-true-true =
+    5 ∷ 1 ∷ 4 ∷ 0 ∷
+    5 ∷ 2 ∷ 3 ∷ 0 ∷
+    3 ∷ 9 ∷ 0 ∷ 0 ∷
+    1 ∷ 1 ∷ 0 ∷ 0 ∷
+    1 ∷ 1 ∷ 0 ∷ 0 ∷ []
+
 -- ---- The table
 
 unfoldable pub formulas : List Row
@@ -179,4 +188,10 @@ formulas =
     runs (1 ∷ 1 ∷ 0 ∷ 0 ∷ []) (11 ∷ 1 ∷ 1 ∷ 0 ∷ []) ∷
     runs (0 ∷ 0 ∷ 0 ∷ 0 ∷ []) (12 ∷ 0 ∷ 1 ∷ 0 ∷ []) ∷
     runs if-on-integer (16 ∷ 2 ∷ 5 ∷ 0 ∷ []) ∷
-    runsWith 100000 512 1 p1 (19 ∷ 0 ∷ 6 ∷ 1 ∷ []) ∷ []
+    runsWith 100000 512 1 p1 (19 ∷ 0 ∷ 6 ∷ 1 ∷ []) ∷
+    -- Fuel for exactly the steps of P1 gives its value; a step that raises an exception needs fuel too.
+    runsIn 14 512 p1 (10 ∷ 6 ∷ 14 ∷ 1 ∷ []) ∷
+    runsIn 11 512 p8 (17 ∷ 0 ∷ 11 ∷ []) ∷
+    -- = true true: no type; stuck at its second argument, node 0, after 8 steps.
+    types equal-true-true (6 ∷ 0 ∷ []) ∷
+    runs equal-true-true (16 ∷ 0 ∷ 8 ∷ 0 ∷ []) ∷ []

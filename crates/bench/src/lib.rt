@@ -1,1 +1,1 @@
-// The bench formulas of the scope, as a theory: definitions and theorems stand in specs/. There is no code here.
+// The bench formulas of the rules, as a theory: definitions and theorems stand in specs/. There is no code here.
