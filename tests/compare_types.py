@@ -3,7 +3,7 @@
 
 usage: compare_types.py PROGRAM [COUNT]
 
-PROGRAM is crates/trials as it is built. The bench formulas come first, with the answers that the scope states for them; then tables that
+PROGRAM is crates/trials as it is built. The bench formulas come first, with the answers that the rules state for them; then tables that
 are generated from a fixed seed, typed and not, with work and out slices at and around their exact lengths, and the same tables damaged.
 
 The second inference goes down the formula with the types of the names in scope, and substitutes for variables as soon as two types have
@@ -308,7 +308,7 @@ def main():
     sys.setrecursionlimit(20000)
     for words, room, wanted in BENCH:
         if Inference(words).said(*room) != wanted:
-            sys.exit("the second inference gives %s for %s with %s, and the scope says %s"
+            sys.exit("the second inference gives %s for %s with %s, and the rules say %s"
                      % (Inference(words).said(*room), words, room, wanted))
     asked = list(cases(count))
     answers = lines(program, [trial(INFER, (work, out, 0), words) for words, work, out, _ in asked])

@@ -19,7 +19,7 @@ use Rattle.acceptance.specs.declared.Verdict.the-variants.{Accepted as A
 accepts-exactly-checked : (words : List ℕ) (n : ℕ) → (checkOf words ≡ Accepts n) ↔ Checked words n
 accepts-exactly-checked words n = (Accepted.accepted-is-checked words n, Accepted.checked-is-accepted words n)
 
--- The same in the paper's numbers: code 0, with the node count as its place.
+-- The same as numbers: code 0, with the node count as its place.
 code-0-exactly : (words : List ℕ) (n : ℕ) → ((checkCode (checkOf words) ≡ 0) × (checkPlace (checkOf words) ≡ n)) ↔ Checked words n
 code-0-exactly = RefusalsExactly.code-0-exactly
 

@@ -100,7 +100,7 @@ checkNodes words nd n =
 unfoldable pub checkOf : List ℕ → Verdict
 checkOf words = refuseAt 1 (miscount (length words)) (checkNodes words (nodeAt words) (countOf words))
 
--- ---- The paper's numbers
+-- ---- Its numbers
 
 abbrev pub checkCode : Verdict → ℕ
 checkCode (Accepted n) = 0

@@ -111,7 +111,7 @@ module _ (words : List ℕ) where
   refused-so (for-a-parent w f s) = rw (w, from-none f, from-smallest s)
   refused-so (for-a-name w f g s) = rw (w, from-none f, from-none g, from-smallest s)
 
-  -- ---- By the paper's numbers
+  -- ---- As numbers
 
   abbrev Numbers : Verdict → ℕ → ℕ → Type 0
   Numbers v code place = (checkCode v ≡ code) × (checkPlace v ≡ place)

@@ -1,4 +1,4 @@
--- Types with variables, and substitutions on them (lecture notes, section 10.3: Definitions 11 and 16 to 21, 26).
+-- Types with variables, and substitutions on them (lecture notes, Definition 11 in section 9.1, 16 to 21 in 10.3, 26 in 10.5).
 use Prim.Native.Nat.{ℕ}
 use mathlib.Core.Path.{_≡_}
 
