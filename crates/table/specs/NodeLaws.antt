@@ -9,9 +9,10 @@ use native.Mathlib.Omega.{arith}
 use lib.Dec.{eqb}
 use borrow.Author.Tests.{ne-eqb}
 use Rattle.language.specs.Expression.{Constant, Name}
+use Rattle.language.specs.Once.{once}
 use Rattle.table.specs.Node.{Node, constant-node, name-node, application-node, if-node, lambda-node, let-node, rec-node, Field, field-a, field-b, field-c, wordAt, nodeOf, nodeAt}
 use Rattle.table.specs.Scope.{bindsIn, isNamed, nameOf}
-use Rattle.table.specs.Refusals.{once, timesIn}
+use Rattle.table.specs.Refusals.{timesIn}
 use Rattle.table.specs.Asked.{wordsAt}
 use Rattle.table.specs.Reading.{nodeIn, childrenIn, nodeFrom, metIn, met, aboveIf, bindingIf, letMet}
 use Rattle.table.specs.declared.NodeWords.{NodeWords}

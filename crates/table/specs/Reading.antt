@@ -5,10 +5,11 @@ use mathlib.Core.List.{List, []}
 use mathlib.Core.Option.{Option, none, some}
 use lib.Dec.{eqb}
 use Rattle.language.specs.Expression.{Name}
+use Rattle.language.specs.Once.{once}
 use Rattle.table.specs.Node.{Node, Nodes, Field, field-a, field-b, field-c, child, wordAt, nodeOf}
 use Rattle.table.specs.Walk.{fieldHolding, climbFrom}
 use Rattle.table.specs.Scope.{bindsIn, enter, isNamed, firstNamed}
-use Rattle.table.specs.Refusals.{once, timesBelow, isSome}
+use Rattle.table.specs.Refusals.{timesBelow, isSome}
 use Rattle.table.specs.declared.NodeWords.{NodeWords}
 use Rattle.table.specs.declared.binders.Met.{Met}
 use Rattle.table.specs.declared.binders.Met.the-variants.{Elsewhere, Above, Binding}

@@ -5,9 +5,10 @@ use mathlib.Core.Logic.{_⊎_, inl, inr, ⊎-elim}
 use mathlib.Core.Bool.{Bool, true, false}
 use native.Mathlib.Decide.{ℕ-discrete}
 use native.Mathlib.Omega.{arith}
+use Rattle.language.specs.Once.{once}
 use Rattle.table.specs.Node.{Nodes, Field, field-a, field-b, field-c, child, Kid}
 use Rattle.table.specs.Walk.{holds}
-use Rattle.table.specs.Refusals.{once, timesIn, timesBelow}
+use Rattle.table.specs.Refusals.{timesIn, timesBelow}
 use Rattle.table.specs.TreeLaws.{holds-true, holds-false}
 
 -- ---- Counts of places, where a place is a field of a node

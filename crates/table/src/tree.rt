@@ -7,8 +7,9 @@ ghost use mathlib.Core.Path.{_≡_};
 ghost use mathlib.Core.Bool.{true};
 ghost use mathlib.Core.Option.{none};
 ghost use lib.ListN.{length};
+ghost use Rattle.language.specs.Once.{once};
 ghost use Rattle.table.specs.Node.{nodeAt};
-ghost use Rattle.table.specs.Refusals.{once, timesIn, timesBelow, firstFrom, refuseAt};
+ghost use Rattle.table.specs.Refusals.{timesIn, timesBelow, firstFrom, refuseAt};
 ghost use Rattle.table.specs.Reading.{nodeIn, misplacedBelow, childrenIn, childrenBelow};
 
 fn one_if(t: bool) -> u32

@@ -1,6 +1,8 @@
 -- `inference::rules::name` meets its contract.
-use Rattle.inference.specs.RuleLaws.{few, type-inside, name-inside, binder-below, name-solved, unbound-solved}
+use native.Mathlib.Omega.{arith}
 use borrow.Author.Needs.{needs}
+use Rattle.inference.specs.RuleLaws.{binder-has-cells, name-solved, unbound-solved}
+use Rattle.inference.specs.NodeCells.{node-ready}
 use Rattle.inference.proofs.rules.name.Statement.{statement}
 use Rattle.inference.proofs.rules.name.Tie as tie
 
@@ -14,22 +16,40 @@ enum-told : tie.Need-enum-told
 enum-told c = search needs
 
 returns : tie.Need-returns
-returns c = unbound-solved (c .before .before .before .before .before .pre) (c .before .before .binder .ensures) (c .enum-told .given .1)
+returns c =
+    let asked = c .before .before in
+    unbound-solved (asked .before .before .before .pre) (asked .binder .ensures) (c .enum-told .given .1)
 
 type-cell-requires : tie.Need-type-cell-requires
 type-cell-requires c κs = search needs
 
 name-cell-requires : tie.Need-name-cell-requires
-name-cell-requires c κs = few (c .before .before .before .before .before .before .before .before .pre) (binder-below (c .before .before .before .before .before .before .before .before .pre) (c .before .before .before .before .before .binder .ensures) (c .before .before .before .bound .given .1))
+name-cell-requires c κs =
+    let told = c .before .before .before in
+    let asked = told .before .before in
+    let ready = asked .before .before .before .pre in
+    omega (arith, binder-has-cells ready (asked .binder .ensures) (told .bound .given .1), ready .cells .sound .small)
 
 join-requires : tie.Need-join-requires
-join-requires c κs = (c .before .before .before .before .before .before .before .before .before .pre .cells .sound, rw (c .before .type-cell .ensures) (type-inside (c .before .before .before .before .before .before .before .before .before .pre) (c .before .before .before .before .before .before .before .before .before .pre .below)), rw (c .name-cell .ensures) (name-inside (c .before .before .before .before .before .before .before .before .before .pre) (binder-below (c .before .before .before .before .before .before .before .before .before .pre) (c .before .before .before .before .before .before .binder .ensures) (c .before .before .before .before .bound .given .1))))
+join-requires c κs =
+    let told = c .before .before .before .before in
+    let asked = told .before .before in
+    let ready = asked .before .before .before .pre in
+    let (sound, own) = node-ready ready in
+    let bound = binder-has-cells ready (asked .binder .ensures) (told .bound .given .1) in
+    (sound, omega (arith, c .before .type-cell .ensures), rw (c .name-cell .ensures) bound)
 
 same-length : tie.Need-same-length
 same-length c = search needs
 
 returns-2 : tie.Need-returns-2
-returns-2 c = name-solved (c .before .before .before .before .before .before .before .before .before .before .before .before .pre) (c .before .before .before .before .before .before .before .before .before .binder .ensures) (c .before .before .join .result) (c .before .before .before .before .before .before .before .bound .given .1) (rw (c .before .before .before .before .type-cell .ensures, c .before .before .before .name-cell .ensures) at (c .before .before .join .ensures))
+returns-2 c =
+    let joined = c .before .before in
+    let typed = joined .before .before in
+    let told = typed .before .before .before in
+    let asked = told .before .before in
+    let same = rw (typed .type-cell .ensures, joined .before .name-cell .ensures) at (joined .join .ensures) in
+    name-solved (asked .before .before .before .pre) (asked .binder .ensures) (told .bound .given .1) same
 
 pub name-spec : {M : Type 1} → statement M
 name-spec =
