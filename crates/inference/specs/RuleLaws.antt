@@ -25,7 +25,7 @@ use Rattle.table.specs.declared.Bound.{Bound}
 use Rattle.table.specs.declared.Bound.the-variants.{At, Nowhere}
 use Rattle.equations.specs.Equations.{equationsAt}
 use Rattle.cells.specs.Cells.{Fits, Sat}
-use Rattle.cells.specs.Layout.{cellOf, storeOf}
+use Rattle.cells.specs.Layout.{cellOf, storeOf, Sound}
 use Rattle.cells.specs.Interface.{Outcome}
 use Rattle.cells.specs.Outcomes.{outcome-for}
 use Rattle.cells.specs.Starting.{Constants}
@@ -52,10 +52,10 @@ module _ {words : List ℕ} {k : ℕ} {mem : List ℕ} (r : NodeReady words k me
       go none h = refl
       go (some q) h = absurd (let z : _≡_ {A = ℕ} 0 1 = cc in omega arith)
 
-  pub binder-has-cells : {p : ℕ} → b ≡ At p → HasNode mem p
-  binder-has-cells {p} e =
+  pub binder-ready : {p : ℕ} → b ≡ At p → Sound mem × HasNode mem k × HasNode mem p
+  binder-ready {p} e =
       let less = go (nameOf (nodeAt words k)) (binder-is e) in
-      has-node r (omega (arith, r .below))
+      (r .cells .sound, has-node r (r .below), has-node r (omega (arith, r .below)))
     where
       go : (x : Option ℕ) → binderFor (nodeAt words) k x ≡ some p → p < k
       go none h = absurd (let z : _≡_ {A = ℕ} 0 1 = cc in omega arith)

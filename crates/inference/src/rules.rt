@@ -1,5 +1,5 @@
-// The equations of a tree of nodes: each node contributes those of its rule. Cells 0 to 3 are bool, int, int → int and int → bool; after
-// them each node has a cell for its type and one for the type of the name that it binds.
+// The equations of a tree of nodes: each node contributes those of its rule. Cells 0 to 3 are bool, int, int → int and int → bool. After
+// them come two for each node: cell 2 k + 4 for the type of node k, and cell 2 k + 1 + 4 for the type of the name that it binds.
 use cells::TypeCell;
 use cells::join;
 use cells::say;
@@ -11,20 +11,6 @@ ghost use Rattle.cells.specs.Cells.{Fits};
 ghost use Rattle.cells.specs.Layout.{cellOf, cellsIn, Sound};
 ghost use Rattle.cells.specs.Interface.{Outcome};
 ghost use Rattle.inference.specs.TableCells.{typeCell, nameCell, givesCell, HasNode, NodeReady, NameSolved, NodeSolved, NodesReady, NodesSolved};
-
-fn type_cell(k: u32) -> u32
-    requires { ⌜ k ≤ 4096 ⌝ }
-    ensures { λ r. ⌜ r ≡ typeCell k ⌝ }
-{
-    2 * k + 4
-}
-
-fn name_cell(k: u32) -> u32
-    requires { ⌜ k ≤ 4096 ⌝ }
-    ensures { λ r. ⌜ r ≡ nameCell k ⌝ }
-{
-    2 * k + 1 + 4
-}
 
 // Operators 0 to 4 give an int after two, the others a bool: cell 2 or 3 after one.
 fn gives_cell(o: u32) -> u32
@@ -59,7 +45,7 @@ fn constant(cells: &mut [u32], k: u32, tag: u32) -> bool
 {
     say(
         cells,
-        type_cell(k),
+        2 * k + 4,
         TypeCell {
             tag: tag,
             a: 0,
@@ -73,10 +59,18 @@ fn operator(cells: &mut [u32], k: u32, o: u32) -> bool
     requires { ⌜ Sound (now cells) × HasNode (now cells) k ⌝ }
     ensures { λ ok. ⌜ Outcome (now (cells .entry)) (now (cells .exit)) (λ ρ. ρ (typeCell k) ≡ ρ 1 ⇒ ρ (givesCell o)) ok ⌝ }
 {
-    say_arrow(cells, type_cell(k), 1, gives_cell(o))
+    say_arrow(cells, 2 * k + 4, 1, gives_cell(o))
 }
 
-// (ID): a name has the type of its binder.
+// A name has the type that its binder gives it.
+fn bound_at(cells: &mut [u32], k: u32, b: u32) -> bool
+    requires { ⌜ Sound (now cells) × HasNode (now cells) k × HasNode (now cells) b ⌝ }
+    ensures { λ ok. ⌜ Outcome (now (cells .entry)) (now (cells .exit)) (λ ρ. ρ (typeCell k) ≡ ρ (nameCell b)) ok ⌝ }
+{
+    join(cells, 2 * k + 4, 2 * b + 1 + 4)
+}
+
+// (ID), by way of the name's binder.
 fn name(words: &[u32], cells: &mut [u32], k: u32) -> bool
     requires { ⌜ NodeReady (now words) k (now cells) ⌝ }
     ensures { λ ok. ⌜ Outcome (now (cells .entry)) (now (cells .exit)) (NameSolved (now (words .entry)) k) ok ⌝ }
@@ -85,7 +79,7 @@ fn name(words: &[u32], cells: &mut [u32], k: u32) -> bool
     let Bound::At(b) = bound else {
         return true;
     };
-    join(cells, type_cell(k), name_cell(b))
+    bound_at(cells, k, b)
 }
 
 // (APP): the left part takes the right part to the whole.
@@ -93,7 +87,7 @@ fn application(cells: &mut [u32], k: u32, l: u32, r: u32) -> bool
     requires { ⌜ Sound (now cells) × HasNode (now cells) k × HasNode (now cells) l × HasNode (now cells) r ⌝ }
     ensures { λ ok. ⌜ Outcome (now (cells .entry)) (now (cells .exit)) (λ ρ. ρ (typeCell l) ≡ ρ (typeCell r) ⇒ ρ (typeCell k)) ok ⌝ }
 {
-    say_arrow(cells, type_cell(l), type_cell(r), type_cell(k))
+    say_arrow(cells, 2 * l + 4, 2 * r + 4, 2 * k + 4)
 }
 
 // Both branches have the type of the whole.
@@ -101,8 +95,7 @@ fn branches(cells: &mut [u32], k: u32, e1: u32, e2: u32) -> bool
     requires { ⌜ Sound (now cells) × HasNode (now cells) k × HasNode (now cells) e1 × HasNode (now cells) e2 ⌝ }
     ensures { λ ok. ⌜ Outcome (now (cells .entry)) (now (cells .exit)) (λ ρ. (ρ (typeCell k) ≡ ρ (typeCell e1)) × (ρ (typeCell k) ≡ ρ (typeCell e2))) ok ⌝ }
 {
-    let whole = type_cell(k);
-    both(cells, whole, type_cell(e1), whole, type_cell(e2))
+    both(cells, 2 * k + 4, 2 * e1 + 4, 2 * k + 4, 2 * e2 + 4)
 }
 
 // (COND): the condition is a bool, and both branches have the type of the whole.
@@ -121,7 +114,7 @@ fn lambda(cells: &mut [u32], k: u32, body: u32) -> bool
     requires { ⌜ Sound (now cells) × HasNode (now cells) k × HasNode (now cells) body ⌝ }
     ensures { λ ok. ⌜ Outcome (now (cells .entry)) (now (cells .exit)) (λ ρ. ρ (typeCell k) ≡ ρ (nameCell k) ⇒ ρ (typeCell body)) ok ⌝ }
 {
-    say_arrow(cells, type_cell(k), name_cell(k), type_cell(body))
+    say_arrow(cells, 2 * k + 4, 2 * k + 1 + 4, 2 * body + 4)
 }
 
 // (LET): the body's type, and the name has the bound expression's.
@@ -129,13 +122,7 @@ fn let_in(cells: &mut [u32], k: u32, bound: u32, body: u32) -> bool
     requires { ⌜ Sound (now cells) × HasNode (now cells) k × HasNode (now cells) bound × HasNode (now cells) body ⌝ }
     ensures { λ ok. ⌜ Outcome (now (cells .entry)) (now (cells .exit)) (λ ρ. (ρ (typeCell k) ≡ ρ (typeCell body)) × (ρ (nameCell k) ≡ ρ (typeCell bound))) ok ⌝ }
 {
-    both(
-        cells,
-        type_cell(k),
-        type_cell(body),
-        name_cell(k),
-        type_cell(bound),
-    )
+    both(cells, 2 * k + 4, 2 * body + 4, 2 * k + 1 + 4, 2 * bound + 4)
 }
 
 // (REC'): the name and the body have the type of the whole.
@@ -143,8 +130,7 @@ fn rec(cells: &mut [u32], k: u32, body: u32) -> bool
     requires { ⌜ Sound (now cells) × HasNode (now cells) k × HasNode (now cells) body ⌝ }
     ensures { λ ok. ⌜ Outcome (now (cells .entry)) (now (cells .exit)) (λ ρ. (ρ (typeCell k) ≡ ρ (nameCell k)) × (ρ (typeCell k) ≡ ρ (typeCell body))) ok ⌝ }
 {
-    let whole = type_cell(k);
-    both(cells, whole, name_cell(k), whole, type_cell(body))
+    both(cells, 2 * k + 4, 2 * k + 1 + 4, 2 * k + 4, 2 * body + 4)
 }
 
 // The equations of node k.

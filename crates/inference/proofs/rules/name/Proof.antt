@@ -1,8 +1,6 @@
 -- `inference::rules::name` meets its contract.
-use native.Mathlib.Omega.{arith}
 use borrow.Author.Needs.{needs}
-use Rattle.inference.specs.RuleLaws.{binder-has-cells, name-solved, unbound-solved}
-use Rattle.inference.specs.NodeCells.{node-ready}
+use Rattle.inference.specs.RuleLaws.{binder-ready, name-solved, unbound-solved}
 use Rattle.inference.proofs.rules.name.Statement.{statement}
 use Rattle.inference.proofs.rules.name.Tie as tie
 
@@ -20,24 +18,11 @@ returns c =
     let asked = c .before .before in
     unbound-solved (asked .before .before .before .pre) (asked .binder .ensures) (c .enum-told .given .1)
 
-type-cell-requires : tie.Need-type-cell-requires
-type-cell-requires c κs = search needs
-
-name-cell-requires : tie.Need-name-cell-requires
-name-cell-requires c κs =
-    let told = c .before .before .before in
+bound-at-requires : tie.Need-bound-at-requires
+bound-at-requires c κs =
+    let told = c .before .before in
     let asked = told .before .before in
-    let ready = asked .before .before .before .pre in
-    omega (arith, binder-has-cells ready (asked .binder .ensures) (told .bound .given .1), ready .cells .sound .small)
-
-join-requires : tie.Need-join-requires
-join-requires c κs =
-    let told = c .before .before .before .before in
-    let asked = told .before .before in
-    let ready = asked .before .before .before .pre in
-    let (sound, own) = node-ready ready in
-    let bound = binder-has-cells ready (asked .binder .ensures) (told .bound .given .1) in
-    (sound, omega (arith, c .before .type-cell .ensures), rw (c .name-cell .ensures) bound)
+    binder-ready (asked .before .before .before .pre) (asked .binder .ensures) (told .bound .given .1)
 
 same-length : tie.Need-same-length
 same-length c = search needs
@@ -45,11 +30,9 @@ same-length c = search needs
 returns-2 : tie.Need-returns-2
 returns-2 c =
     let joined = c .before .before in
-    let typed = joined .before .before in
-    let told = typed .before .before .before in
+    let told = joined .before .before .before in
     let asked = told .before .before in
-    let same = rw (typed .type-cell .ensures, joined .before .name-cell .ensures) at (joined .join .ensures) in
-    name-solved (asked .before .before .before .pre) (asked .binder .ensures) (told .bound .given .1) same
+    name-solved (asked .before .before .before .pre) (asked .binder .ensures) (told .bound .given .1) (joined .bound-at .ensures)
 
 pub name-spec : {M : Type 1} → statement M
 name-spec =
@@ -59,8 +42,6 @@ name-spec =
     enum-known-bound
     enum-told
     returns
-    type-cell-requires
-    name-cell-requires
-    join-requires
+    bound-at-requires
     same-length
     returns-2)
