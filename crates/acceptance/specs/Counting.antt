@@ -3,7 +3,8 @@ use Prim.Native.Nat.{ℕ, zero, suc, _+_}
 use mathlib.Core.Bool.{Bool, not, _&&_}
 use lib.Dec.{eqb}
 use Rattle.table.specs.Node.{Node, Nodes, field-a, field-b, field-c, child}
-use Rattle.acceptance.specs.Refusals.{once, timesBelow, isSome}
+use Rattle.language.specs.Once.{once}
+use Rattle.acceptance.specs.Refusals.{timesBelow, isSome}
 
 -- Parents have smaller numbers, so it is enough to look for them below the node.
 abbrev pub misplacedBelow : Nodes → ℕ → Bool

@@ -6,7 +6,8 @@ use native.Mathlib.Omega.{arith}
 use lib.Dec.{eqb}
 use Rattle.table.specs.Node.{Node, nodeOf}
 use Rattle.table.specs.NodeLaws.{Leaf, a-constant, a-name}
-use Rattle.acceptance.specs.Refusals.{once, timesIn}
+use Rattle.language.specs.Once.{once}
+use Rattle.acceptance.specs.Refusals.{timesIn}
 use Rattle.acceptance.specs.Counting.{childrenIn}
 
 pub leaf-holds-nothing : {node : Node} → Leaf node → (k : ℕ) → timesIn node k ≡ 0

@@ -11,7 +11,9 @@ use lib.Dec.{eqb}
 use borrow.Author.Tests.{ne-eqb}
 use Rattle.table.specs.Node.{Node, Nodes, field-a, field-b, field-c, child}
 use Rattle.table.specs.Walk.{holds}
-use Rattle.acceptance.specs.Refusals.{once, timesIn, timesBelow, isSome, firstFrom}
+use Rattle.language.specs.Once.{once}
+use Rattle.language.specs.Count.{once-small}
+use Rattle.acceptance.specs.Refusals.{timesIn, timesBelow, isSome, firstFrom}
 use Rattle.acceptance.specs.Counting.{misplacedBelow, childrenIn, childrenBelow}
 use Rattle.acceptance.specs.Parents.{times-grow, times-next, placed-if}
 use Rattle.acceptance.specs.FirstFrom.{none-first}
@@ -28,10 +30,6 @@ sum-of-sums f g zero = refl
 sum-of-sums f g (suc n) =
     let rest = sum-of-sums f g n in
     omega arith
-
-pub once-small : (t : Bool) → once t ≤ 1
-once-small true = omega arith
-once-small false = omega arith
 
 -- A child is met once at most.
 sum-nothing : (n : ℕ) → sum (λ k. once (holds k none)) n ≡ 0

@@ -5,6 +5,7 @@ use mathlib.Core.List.{List, [], _∷_}
 use mathlib.Core.Option.{Option, none, some}
 use lib.Dec.{eqb, ltb}
 use lib.ListN.{length, getD}
+use Rattle.language.specs.Once.{once}
 use Rattle.table.specs.Node.{Node, Nodes, field-a, field-b, field-c, child, wordAt, nodeAt, countOf}
 use Rattle.table.specs.Walk.{holds}
 use Rattle.table.specs.Scope.{nameOf, binderOf}
@@ -53,10 +54,6 @@ abbrev pub fits : List ℕ → ℕ → ℕ → Bool
 fits words n k = fitsRule n k (wordAt words (4 * k)) (wordAt words (4 * k + 1)) (wordAt words (4 * k + 2)) (wordAt words (4 * k + 3))
 
 -- ---- Code 3: a node other than 0 is not a child exactly once
-
-abbrev pub once : Bool → ℕ
-once true = 1
-once false = 0
 
 -- In how many fields of a node k stands; the same number in two fields counts twice.
 abbrev pub timesIn : Node → ℕ → ℕ

@@ -7,7 +7,8 @@ use native.Mathlib.Decide.{ℕ-discrete}
 use native.Mathlib.Omega.{arith}
 use Rattle.table.specs.Node.{Nodes, Field, field-a, field-b, field-c, child, Kid}
 use Rattle.table.specs.Walk.{holds}
-use Rattle.acceptance.specs.Refusals.{once, timesIn, timesBelow}
+use Rattle.language.specs.Once.{once}
+use Rattle.acceptance.specs.Refusals.{timesIn, timesBelow}
 use Rattle.table.specs.TreeLaws.{holds-true, holds-false}
 
 -- ---- Counts of places, where a place is a field of a node

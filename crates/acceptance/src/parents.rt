@@ -8,7 +8,8 @@ ghost use mathlib.Core.Bool.{true};
 ghost use mathlib.Core.Option.{none};
 ghost use lib.ListN.{length};
 ghost use Rattle.table.specs.Node.{nodeAt};
-ghost use Rattle.acceptance.specs.Refusals.{once, timesIn, timesBelow, firstFrom, refuseAt};
+ghost use Rattle.language.specs.Once.{once};
+ghost use Rattle.acceptance.specs.Refusals.{timesIn, timesBelow, firstFrom, refuseAt};
 ghost use Rattle.table.specs.Reading.{nodeIn};
 ghost use Rattle.acceptance.specs.Counting.{misplacedBelow, childrenIn, childrenBelow};
 

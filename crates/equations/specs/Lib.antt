@@ -9,9 +9,5 @@ pub mod SolutionsType
 pub mod Derivations
 pub mod TypingsSolve
 pub mod TypedExactlySolvable
--- Stores of type cells.
-pub mod Cells
-pub mod CellSteps
-pub mod Grounded
 -- Inference by the textbook's unification.
 pub mod Inferred

@@ -2,7 +2,7 @@
 use Prim.Native.Nat.{ℕ}
 use mathlib.Core.Path.{_≡_}
 use mathlib.Core.Logic.{_↔_}
-use Rattle.language.specs.Ty.{Ty, Subst, MoreGeneral}
+use Rattle.language.specs.Ty.{Ty, Subst}
 use Rattle.language.specs.Environment.{empty}
 use Rattle.language.specs.Typing.{Has}
 use Rattle.language.specs.Principal.{Principal}
@@ -11,8 +11,6 @@ use Rattle.table.specs.Node.{Nodes}
 use Rattle.table.specs.ExpressionOf.{expAt}
 use Rattle.table.specs.Tree.{ClosedTree}
 use Rattle.equations.specs.Equations.{nodeVar, equationsBelow}
-use Rattle.equations.specs.Cells.{Store, Sat, Grounds, LinksFall, Leans}
-use Rattle.equations.specs.Grounded as Grounded
 use Rattle.equations.specs.TypedExactlySolvable as TypedExactlySolvable
 use Rattle.equations.specs.Inferred as Inferred
 use Rattle.equations.specs.Inferred.{inferred, RightType}
@@ -33,16 +31,3 @@ module _ {nd : Nodes} {n : ℕ} (t : ClosedTree nd n) where
   -- Inference by the textbook's unification answers with a most general type, or with none where the formula has no type.
   inferred-right : RightType (expAt nd n 0) (inferred nd n)
   inferred-right = Inferred.inferred-right t
-
--- ---- Stores of type cells
-
--- A store in which every cell evaluates has the evaluation as a most general satisfying valuation.
-grounded-satisfies : {γ : Subst} {σ : Store} → Grounds γ σ → Sat γ σ
-grounded-satisfies = Grounded.grounded-satisfies
-
-grounded-most-general : {γ : Subst} {σ : Store} → Grounds γ σ → {ρ : Subst} → Sat ρ σ → MoreGeneral γ ρ
-grounded-most-general = Grounded.grounded-most-general
-
--- A store in which some cells lean on one another without end has no satisfying valuation.
-ungrounded-has-none : {ρ : Subst} {σ : Store} {U : ℕ → Type 0} → LinksFall σ → ((i : ℕ) → U i → Leans σ U i) → Sat ρ σ → {i : ℕ} → U i → ⊥
-ungrounded-has-none = Grounded.ungrounded-has-none

@@ -1,35 +1,31 @@
 -- The cells of a solved table give its most general type, or it has none.
-use Prim.Native.Nat.{ℕ, zero, suc, _+_, _-_, _*_, _≤_, _<_}
+use Prim.Native.Nat.{ℕ, _+_, _-_, _≤_, _<_}
 use mathlib.Core.Path.{_≡_, refl, sym, _∙_, ap, fun-ext}
-use mathlib.Core.Bool.{true, false}
+use mathlib.Core.Bool.{true, false, Bool}
 use mathlib.Core.List.{List, [], _∷_}
 use native.Mathlib.Omega.{arith}
-use lib.ListN.{length, getD, replicate, length-replicate, List·getD-eq-default}
+use lib.ListN.{length, getD, List·getD-eq-default}
 use Rattle.language.specs.Ty.{Ty, bool, int, _⇒_, Subst}
 use Rattle.language.specs.Environment.{empty}
 use Rattle.language.specs.Typing.{Has}
 use Rattle.language.specs.Principal.{Principal}
-use Rattle.language.specs.Unification.{Solves, MostGeneralSolution}
+use Rattle.language.specs.Unification.{Solves}
 use Rattle.language.specs.WrittenForm.{wordsOf}
+use Rattle.language.specs.Expression.{Exp}
 use Rattle.table.specs.Node.{nodeAt}
-use Rattle.acceptance.specs.Refusals.{checkOf}
-use Rattle.table.specs.ExpressionOf.{expOf}
-use Rattle.acceptance.specs.Accepted.{count-is}
-use Rattle.acceptance.specs.declared.Verdict.the-variants.{Accepted}
-use Rattle.equations.specs.Cells.{Sat, Grounds}
-use Rattle.equations.specs.Grounded.{grounded-satisfies, grounded-then-any}
+use Rattle.table.specs.ExpressionOf.{expAt}
 use Rattle.equations.specs.Equations.{equationsBelow}
 use Rattle.equations.specs.TypedExactlySolvable.{typed-exactly-solvable, most-general-is-principal}
-use Rattle.inference.specs.Layout.{cellAt, pairAt, cellsIn, storeOf, Sound}
-use Rattle.inference.specs.StoreLaws.{same-store, sound-same}
-use Rattle.inference.specs.Solving.{Outcome}
-use Rattle.inference.specs.Grounding.{GroundTested}
-use Rattle.inference.specs.Writing.{TypeWritten, fits, over, CellWritten}
-use Rattle.inference.specs.TableCells.{unknowns, Constants, TableSolved, TableReady, TableRoom}
-use Rattle.inference.specs.TableLaws.{all-satisfied}
-use Rattle.inference.specs.Inference.{no-type, out-short, typed}
-use Rattle.inference.specs.WithWork.{InfersWithWork}
-use Rattle.inference.specs.declared.Inferred.{Inferred}
+use Rattle.cells.specs.Interface.{Started, Unnumbered, GroundTested, TypeWritten, fits, over, CellWritten, Outcome}
+use Rattle.cells.specs.Starting.{Constants, started-constants}
+use Rattle.cells.specs.Cells.{Sat, Grounds}
+use Rattle.cells.specs.Grounded.{grounded-satisfies, grounded-then-any}
+use Rattle.cells.specs.Layout.{cellsIn, storeOf}
+use Rattle.cells.specs.StoreLaws.{same-store}
+use Rattle.cells.specs.declared.Written.{Written}
+use Rattle.inference.specs.TableCells.{cellWords, NodesSolved, TreeRoom, unknowns}
+use Rattle.inference.specs.OfFormula.{TypesFound, types, no-types, FormulaInfers, untyped, too-long, fitting}
+use Rattle.inference.specs.InferCall.{answerOf}
 use Rattle.inference.specs.declared.Inferred.the-variants.{Refused}
 
 -- ---- Unknowns and cells
@@ -49,77 +45,63 @@ unknowns-back s = fun-ext (λ α.
     let back : α + 4 - 4 ≡ α = omega arith in
     List·getD-eq-default (bool ∷ int ∷ (int ⇒ int) ∷ (int ⇒ bool) ∷ []) (s (α + 4 - 4)) past ∙ ap s back)
 
-demanded : (words : List ℕ) (n : ℕ) (s : Subst) → Solves s (equationsBelow (nodeAt words) n) → TableSolved words n (withConstants s)
-demanded words n s h = (constants-in-place s, rw (unknowns-back s) h)
+-- ---- The types of a tree
 
--- ---- No type
+module _ {words : List ℕ} {n : ℕ} {before new : List ℕ} (room : TreeRoom words n before) (started : Started before new) where
+  abbrev formula : Exp
+  formula = expAt (nodeAt words) n 0
 
-module _ {words : List ℕ} {n : ℕ} {free : List ℕ} (t : TableReady words n free) where
-  untyped : ((s : Subst) → ¬ Solves s (equationsBelow (nodeAt words) n)) → (τ : Ty) → ¬ Has empty (expOf words) τ
-  untyped none τ d = let (s, h) = typed-exactly-solvable (t .closed) .0 (τ, rw (← (t .counted)) at d) in none s h
+  -- A solution of the equations satisfies new cells.
+  at-first : (s : Subst) → Sat (withConstants s) (storeOf new)
+  at-first s = started-constants started (withConstants s) .1 (constants-in-place s)
+
+  demanded : (s : Subst) → Solves s (equationsBelow (nodeAt words) n) → NodesSolved words n (withConstants s)
+  demanded s h = rw (unknowns-back s) h
+
+  untypable : ((s : Subst) → ¬ Solves s (equationsBelow (nodeAt words) n)) → (τ : Ty) → ¬ Has empty formula τ
+  untypable none τ d = let (s, h) = typed-exactly-solvable (room .tree-in .closed) .0 (τ, d) in none s h
 
   -- The equations clash.
-  pub clash-untyped : {mem : List ℕ} → Outcome free mem (TableSolved words n) false → (τ : Ty) → ¬ Has empty (expOf words) τ
-  clash-untyped o = untyped (λ s h. o .says (withConstants s) (all-satisfied (t .cells) (withConstants s)) (demanded words n s h))
+  pub clash-found : {mem : List ℕ} → Outcome new mem (NodesSolved words n) false → TypesFound formula mem false
+  clash-found o = no-types (untypable (λ s h. o .says (withConstants s) (at-first s) (demanded s h)))
 
-  module _ {mem : List ℕ} (o : Outcome free mem (TableSolved words n) true) where
+  module _ {mem : List ℕ} (o : Outcome new mem (NodesSolved words n) true) where
     satisfies : (s : Subst) → Solves s (equationsBelow (nodeAt words) n) → Sat (withConstants s) (storeOf mem)
-    satisfies s h = o .says .keeps (withConstants s) .0 (all-satisfied (t .cells) (withConstants s), demanded words n s h)
+    satisfies s h = o .says .keeps (withConstants s) .0 (at-first s, demanded s h)
 
-    -- A type would contain itself.
-    pub cyclic-untyped : ((ρ : Subst) → ¬ Sat ρ (storeOf mem)) → (τ : Ty) → ¬ Has empty (expOf words) τ
-    cyclic-untyped none = untyped (λ s h. none (withConstants s) (satisfies s h))
+    grounded-principal : {γ : Subst} → Grounds γ (storeOf mem) → Principal empty formula (γ 4)
+    grounded-principal {γ} g = most-general-is-principal (room .tree-in .closed) (record {
+      solves = o .says .keeps γ .1 (grounded-satisfies g) .1;
+      most-general = λ s h. record { after = withConstants s; is = ap unknowns (grounded-then-any g (satisfies s h)) ∙ unknowns-back s };
+    })
 
-    -- ---- The most general type
-
-    pub grounded-principal : {γ : Subst} → Grounds γ (storeOf mem) → Principal empty (expOf words) (γ 4)
-    grounded-principal {γ} g = rw (← (t .counted)) (most-general-is-principal (t .closed) most-general)
-      where
-        most-general : MostGeneralSolution (equationsBelow (nodeAt words) n) (unknowns γ)
-        most-general = record {
-          solves = o .says .keeps γ .1 (grounded-satisfies g) .1 .1;
-          most-general = λ s h. record { after = withConstants s; is = ap unknowns (grounded-then-any g (satisfies s h)) ∙ unknowns-back s };
-        }
-
-    -- Where every cell evaluates, the root's is ready to be written, and what is written is the answer.
-    module _ {tested : List ℕ} (gt : GroundTested mem tested true) where
-      pub root-ready : Sound tested × (4 < cellsIn tested) × ((i : ℕ) → pairAt tested i .right ≡ 0)
-      root-ready =
-          let some = t .closed .tree .root in
-          let whole : length tested ≡ 5 * (2 * n + 4) = gt .same .same-length ∙ o .same-length ∙ t .whole in
-          (sound-same (o .says .sound) (gt .same), omega arith, gt .no-numbers)
-
-      pub root-principal : {out out′ : List ℕ} {answer : Inferred} → checkOf words ≡ Accepted n → CellWritten tested 4 out out′ answer → InfersWithWork words n out answer out′
-      root-principal {out} {out′} {answer} v w = go (w .is (gt .says .0 4) (rw (same-store (gt .same)) (gt .says .1 .at 4)))
-        where
-          go : TypeWritten (wordsOf (gt .says .0 4)) out out′ answer → InfersWithWork words n out answer out′
-          go (fits enough-out is after) = record { given = λ work enough. typed v enough (grounded-principal (gt .says .1)) enough-out (rw (is, after) refl) }
-          go (over short is same) = record { given = λ work enough. out-short v enough (grounded-principal (gt .says .1)) short (rw (is, same) refl) }
+    -- Every cell evaluates, or a type would contain itself.
+    pub tested-found : {tested : List ℕ} (ok : Bool) → GroundTested mem tested ok → TypesFound formula tested ok
+    tested-found {tested} true g =
+        let (γ, grounds) = g .says in
+        let some = room .tree-in .closed .tree .root in
+        let whole : length tested ≡ cellWords n = g .same .same-length ∙ o .same-length ∙ started .same-length ∙ room .whole in
+        types {τ = γ 4} (g .ready) (omega arith) (rw (same-store (g .same)) (grounds .at 4)) (grounded-principal grounds)
+    tested-found false g = no-types (untypable (λ s h. g .says (withConstants s) (satisfies s h)))
 
 -- ---- The answer
 
-module _ {words : List ℕ} {n : ℕ} {out : List ℕ} (v : checkOf words ≡ Accepted n) where
-  pub infers-none : ((τ : Ty) → ¬ Has empty (expOf words) τ) → InfersWithWork words n out (Refused 6 0) out
-  infers-none none = record { given = λ work enough. no-type v enough none refl }
+never : false ≡ true → ⊥
+never e = let z : _≡_ {A = ℕ} 0 1 = cc in omega arith
 
--- ---- The slices
+module _ {e : Exp} {mem : List ℕ} where
+  pub ready-to-write : {ok : Bool} → TypesFound e mem ok → ok ≡ true → Unnumbered mem × (4 < cellsIn mem)
+  ready-to-write (types ready inside evaluates principal) yes-it-is = (ready, inside)
+  ready-to-write (no-types none) yes-it-is = absurd (never yes-it-is)
 
-zero-everywhere : (m k : ℕ) → _≡_ {A = ℕ} (getD (replicate m 0) k 0) 0
-zero-everywhere zero k = refl
-zero-everywhere (suc m) zero = refl
-zero-everywhere (suc m) (suc k) = zero-everywhere m k
+  pub found-none : {out : List ℕ} {ok : Bool} → TypesFound e mem ok → ok ≡ false → FormulaInfers e out (Refused 6 0) out
+  found-none (types ready inside evaluates principal) not-so = absurd (never (sym not-so))
+  found-none (no-types none) not-so = untyped none refl refl
 
--- Cells that were made zero are free.
-pub cleared-ready : {words : List ℕ} {n : ℕ} {mem zeroed : List ℕ} → TableRoom words n mem → zeroed ≡ replicate (length mem) 0 → TableReady words n zeroed
-cleared-ready {words} {n} {mem} {zeroed} r is = record {
-  counted = sym (count-is (r .checked));
-  closed = r .checked .closed;
-  cells = record { zero = λ i. rw is (free-at i); small = omega (arith, whole, r .checked .at-most-512); enough = omega (arith, whole, r .checked .closed .tree .root) };
-  whole = whole;
-}
-  where
-    whole : length zeroed ≡ 5 * (2 * n + 4)
-    whole = ap length is ∙ length-replicate _ _ ∙ r .whole
-
-    free-at : (i : ℕ) → cellAt (replicate (length mem) 0) i ≡ record { tag = 0; a = 0; b = 0 }
-    free-at i = rw (zero-everywhere (length mem) (5 * i), zero-everywhere (length mem) (5 * i + 1), zero-everywhere (length mem) (5 * i + 2)) refl
+  pub found-written : {out out′ : List ℕ} {ok : Bool} {w : Written} → TypesFound e mem ok → ok ≡ true → CellWritten mem 4 out out′ w → FormulaInfers e out (answerOf w) out′
+  found-written (no-types none) yes-it-is written = absurd (never yes-it-is)
+  found-written {out} {out′} {w = w} (types {τ} ready inside evaluates principal) yes-it-is written = go (written .is τ evaluates)
+    where
+      go : TypeWritten (wordsOf τ) out out′ w → FormulaInfers e out (answerOf w) out′
+      go (fits enough is after) = fitting principal enough (ap answerOf is) after
+      go (over short is same) = too-long principal short (ap answerOf is) same

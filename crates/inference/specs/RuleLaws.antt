@@ -1,12 +1,11 @@
 -- What is demanded of the cells of a node is that its equations are solved, rule by rule.
 use Prim.Native.Nat.{ℕ, zero, suc, _+_, _-_, _≤_, _<_}
 use mathlib.Core.Path.{_≡_, refl, sym, _∙_, ap, ap₂}
-use mathlib.Core.Bool.{Bool, true, false, cond}
+use mathlib.Core.Bool.{Bool, true, cond}
 use mathlib.Core.Logic.{_≢_, _↔_}
 use mathlib.Core.List.{List, [], _∷_}
 use mathlib.Core.Option.{Option, none, some}
 use native.Mathlib.Omega.{arith}
-use lib.Dec.{ltb}
 use borrow.Author.Tests.{lt-ltb, le-ltb}
 use Rattle.language.specs.Expression.{operator}
 use Rattle.language.specs.Ty.{Ty, unit, bool, int, _⇒_, Subst, apply}
@@ -15,7 +14,7 @@ use Rattle.language.specs.TypingLaws.{constants-have-no-variable}
 use Rattle.language.specs.Unification.{_≐_, Solves, none-left, also}
 use Rattle.language.specs.MostGeneral.{first-solved}
 use Rattle.language.specs.Numbers.{operatorAt}
-use Rattle.table.specs.Node.{Node, Field, field-a, field-b, field-c, child, nodeOf, nodeAt, countOf}
+use Rattle.table.specs.Node.{Node, nodeOf, nodeAt, countOf}
 use Rattle.table.specs.Scope.{nameOf, binderFor, binderOf}
 use Rattle.table.specs.Asked.{wordsAt, binderAnswer, binderIn}
 use Rattle.table.specs.NodeLaws.{reads-as}
@@ -23,49 +22,20 @@ use Rattle.table.specs.Lookup.{found-below}
 use Rattle.table.specs.declared.NodeWords.{NodeWords}
 use Rattle.table.specs.declared.Bound.{Bound}
 use Rattle.table.specs.declared.Bound.the-variants.{At, Nowhere}
-use Rattle.equations.specs.Cells.{Fits, Sat}
 use Rattle.equations.specs.Equations.{equationsAt}
-use Rattle.inference.specs.Layout.{cellOf, storeOf, cellsIn}
-use Rattle.inference.specs.Solving.{Outcome}
-use Rattle.inference.specs.Outcomes.{outcome-for}
-use Rattle.inference.specs.TableCells.{typeCell, nameCell, unknowns, Constants, givesCell, NodeSolved, NameSolved, NodeReady}
-
--- ---- Cells of nodes
-
-module _ {words : List ℕ} {k : ℕ} {mem : List ℕ} (r : NodeReady words k mem) where
-  -- The nodes are few, and their cells are there.
-  pub few : {c : ℕ} → c < countOf words → c ≤ 4096
-  few h =
-      let small = r .cells .sound .small in
-      let whole = r .cells .whole in
-      omega arith
-
-  pub type-inside : {c : ℕ} → c < countOf words → typeCell c < cellsIn mem
-  type-inside h =
-      let whole = r .cells .whole in
-      omega arith
-
-  pub name-inside : {c : ℕ} → c < countOf words → nameCell c < cellsIn mem
-  name-inside h =
-      let whole = r .cells .whole in
-      omega arith
-
-  pub gives-inside : (o : ℕ) → givesCell o < cellsIn mem
-  gives-inside o = go (ltb o 5)
-    where
-      go : (t : Bool) → cond t 2 3 < cellsIn mem
-      go true = omega (arith, r .cells .whole)
-      go false = omega (arith, r .cells .whole)
-
-  -- Children are nodes of the table.
-  pub child-below : {node : Node} → nodeAt words k ≡ node → (f : Field) {c : ℕ} → child node f ≡ some c → c < countOf words
-  child-below e f stands = r .closed .tree .descending .inside {f = f} (r .below) (record { stands = rw e stands })
+use Rattle.cells.specs.Cells.{Fits, Sat}
+use Rattle.cells.specs.Layout.{cellOf, storeOf, Sound}
+use Rattle.cells.specs.Interface.{Outcome}
+use Rattle.cells.specs.Outcomes.{outcome-for}
+use Rattle.cells.specs.Starting.{Constants}
+use Rattle.inference.specs.NodeCells.{has-node}
+use Rattle.inference.specs.TableCells.{typeCell, nameCell, HasNode, unknowns, givesCell, NodeSolved, NameSolved, NodeReady}
 
 -- ---- A name
 
 module _ {words : List ℕ} {k : ℕ} {mem : List ℕ} (r : NodeReady words k mem) {b : Bound} (found : b ≡ binderIn words k) where
   answer : b ≡ binderAnswer (binderOf (nodeAt words) k)
-  answer = found ∙ ap (λ t. binderAnswer (cond t (binderOf (nodeAt words) k) none)) (lt-ltb k (countOf words) (r .below))
+  answer = found ∙ ap (λ t. binderAnswer (cond t (binderOf (nodeAt words) k) none)) (lt-ltb k (countOf words) (rw (← (r .tree-in .counted)) (r .below)))
 
   binder-is : {p : ℕ} → b ≡ At p → binderOf (nodeAt words) k ≡ some p
   binder-is {p} e = go (binderOf (nodeAt words) k) (sym answer ∙ e)
@@ -81,19 +51,18 @@ module _ {words : List ℕ} {k : ℕ} {mem : List ℕ} (r : NodeReady words k me
       go none h = refl
       go (some q) h = absurd (let z : _≡_ {A = ℕ} 0 1 = cc in omega arith)
 
-  pub binder-below : {p : ℕ} → b ≡ At p → p < countOf words
-  binder-below {p} e =
-      let below = r .below in
+  pub binder-ready : {p : ℕ} → b ≡ At p → Sound mem × HasNode mem k × HasNode mem p
+  binder-ready {p} e =
       let less = go (nameOf (nodeAt words k)) (binder-is e) in
-      omega arith
+      (r .cells .sound, has-node r (r .below), has-node r (omega (arith, r .below)))
     where
       go : (x : Option ℕ) → binderFor (nodeAt words) k x ≡ some p → p < k
       go none h = absurd (let z : _≡_ {A = ℕ} 0 1 = cc in omega arith)
       go (some x) h = found-below (nodeAt words) x k k h
 
-  pub name-solved : {after : List ℕ} {p : ℕ} (ok : Bool) → b ≡ At p → Outcome mem after (λ ρ. ρ (typeCell k) ≡ ρ (nameCell p)) ok → Outcome mem after (NameSolved words k) ok
+  pub name-solved : {after : List ℕ} {p : ℕ} {ok : Bool} → b ≡ At p → Outcome mem after (λ ρ. ρ (typeCell k) ≡ ρ (nameCell p)) ok → Outcome mem after (NameSolved words k) ok
   unfolding apply
-  name-solved ok e = outcome-for ok (λ ρ h. (λ s. first-solved (rw (binder-is e) at s), λ q. rw (binder-is e) (also q none-left)))
+  name-solved e = outcome-for (λ ρ h. (λ s. first-solved (rw (binder-is e) at s), λ q. rw (binder-is e) (also q none-left)))
 
   -- A name without a binder, which no checked table has, has no equation.
   pub unbound-solved : b ≡ Nowhere → Outcome mem mem (NameSolved words k) true
@@ -101,9 +70,9 @@ module _ {words : List ℕ} {k : ℕ} {mem : List ℕ} (r : NodeReady words k me
 
 -- ---- The rules
 
--- Kinds 0 to 9 are known.
-pub unknown-kind : {kind : ℕ} → 3 ≤ kind → kind ≢ 3 → kind ≢ 4 → kind ≢ 5 → kind ≢ 6 → kind ≢ 7 → kind ≢ 8 → kind ≢ 9 → 10 ≤ kind
-unknown-kind h n₃ n₄ n₅ n₆ n₇ n₈ n₉ = next (next (next (next (next (next (next h n₃) n₄) n₅) n₆) n₇) n₈) n₉
+-- Kinds 0 to 9 are known. The other hypothesis is what a match on those past 2 leaves.
+pub unknown-kind : {kind : ℕ} → 3 ≤ kind → ((((((Unit {0} × (kind ≢ 3)) × (kind ≢ 4)) × (kind ≢ 5)) × (kind ≢ 6)) × (kind ≢ 7)) × (kind ≢ 8)) × (kind ≢ 9) → 10 ≤ kind
+unknown-kind h (((((((_, n₃), n₄), n₅), n₆), n₇), n₈), n₉) = next (next (next (next (next (next (next h n₃) n₄) n₅) n₆) n₇) n₈) n₉
   where
     next : {kind a : ℕ} → a ≤ kind → kind ≢ a → suc a ≤ kind
     next h n = omega arith
@@ -139,11 +108,11 @@ gives-after-one c (suc (suc (suc (suc (suc (suc (suc (suc (suc (suc o)))))))))) 
 operator-type : {ρ : Subst} → Constants ρ → (o : ℕ) → ρ 1 ⇒ ρ (givesCell o) ≡ typeOf (operator (operatorAt o))
 operator-type c o = ap₂ _⇒_ (c .int-is) (gives-after-one c o)
 
-module _ {words : List ℕ} {k : ℕ} {mem after : List ℕ} (r : NodeReady words k mem) {w : NodeWords} (read : w ≡ wordsAt words k) (ok : Bool) where
+module _ {words : List ℕ} {k : ℕ} {mem after : List ℕ} (r : NodeReady words k mem) {w : NodeWords} (read : w ≡ wordsAt words k) {ok : Bool} where
   -- A demand that is a node's equations, read from its words.
   by-rule : {node : Node} {E : Subst → Type 0} → nodeAt words k ≡ node → ((ρ : Subst) → Sat ρ (storeOf mem) → Solves (unknowns ρ) (equationsAt (nodeAt words) k node) ↔ E ρ) →
       Outcome mem after E ok → Outcome mem after (NodeSolved words k) ok
-  by-rule is equal = outcome-for ok (λ ρ h. rw is (equal ρ h))
+  by-rule is equal = outcome-for (λ ρ h. rw is (equal ρ h))
 
   -- (CONST) of unit, bool and int: kinds 0, 1 and 2.
   pub base-solved : w .kind < 3 → Outcome mem after (λ ρ. Fits ρ (typeCell k) (cellOf (record { tag = w .kind + 2; a = 0; b = 0 }))) ok → Outcome mem after (NodeSolved words k) ok
@@ -201,26 +170,3 @@ module _ {words : List ℕ} {k : ℕ} {mem after : List ℕ} (r : NodeReady word
   unknown-solved h =
       let e : w .kind ≡ suc (suc (suc (suc (suc (suc (suc (suc (suc (suc (w .kind - 10)))))))))) = omega arith in
       by-rule (reads-as words k read e) (λ ρ s. one-solved)
-
--- ---- Children
-
-module _ {words : List ℕ} {k : ℕ} {mem : List ℕ} (r : NodeReady words k mem) {w : NodeWords} (read : w ≡ wordsAt words k) where
-  pub application-children : w .kind ≡ 5 → (w .a < countOf words) × (w .b < countOf words)
-  unfolding nodeOf
-  application-children e = (child-below r (reads-as words k read e) field-a refl, child-below r (reads-as words k read e) field-b refl)
-
-  pub if-children : w .kind ≡ 6 → (w .a < countOf words) × (w .b < countOf words) × (w .c < countOf words)
-  unfolding nodeOf
-  if-children e = (child-below r (reads-as words k read e) field-a refl, child-below r (reads-as words k read e) field-b refl, child-below r (reads-as words k read e) field-c refl)
-
-  pub lambda-child : w .kind ≡ 7 → w .b < countOf words
-  unfolding nodeOf
-  lambda-child e = child-below r (reads-as words k read e) field-b refl
-
-  pub let-children : w .kind ≡ 8 → (w .b < countOf words) × (w .c < countOf words)
-  unfolding nodeOf
-  let-children e = (child-below r (reads-as words k read e) field-b refl, child-below r (reads-as words k read e) field-c refl)
-
-  pub rec-child : w .kind ≡ 9 → w .b < countOf words
-  unfolding nodeOf
-  rec-child e = child-below r (reads-as words k read e) field-b refl

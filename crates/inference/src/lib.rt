@@ -1,18 +1,18 @@
 // The call `infer`: the most general type of a formula, by type cells in a lent slice.
-mod cells;
-mod ground;
 mod rules;
-mod solve;
-mod write;
 
 use acceptance::Verdict;
+use cells::Written;
 ghost use mathlib.Core.Path.{_≡_};
+ghost use Rattle.lent.specs.Cleared.{zeros};
+ghost use Rattle.table.specs.Node.{nodeAt};
 ghost use Rattle.acceptance.specs.Refusals.{checkOf};
+ghost use Rattle.table.specs.ExpressionOf.{expAt};
 ghost use Rattle.acceptance.specs.declared.Verdict.the-variants.{Accepted};
-ghost use Rattle.inference.specs.TableCells.{TableReady, TableRoom};
-ghost use Rattle.inference.specs.Inference.{leaves, Infers};
-ghost use Rattle.inference.specs.WithWork.{InfersWithWork};
-ghost use Rattle.inference.specs.InferCall.{handedUp};
+ghost use Rattle.inference.specs.TableCells.{TreeRoom, WorkRoom};
+ghost use Rattle.inference.specs.Inference.{workFor, leaves, Infers};
+ghost use Rattle.inference.specs.OfFormula.{TypesFound, FormulaInfers};
+ghost use Rattle.inference.specs.InferCall.{handedUp, answerOf};
 
 // What inference of a table answers.
 pub enum Inferred {
@@ -22,42 +22,61 @@ pub enum Inferred {
     Refused { code: u32, place: u32 },
 }
 
-// The type of a checked table, which is cell 4's, in cells that are all free.
-fn principal(words: &[u32], n: u32, cells: &mut [u32], out: &mut [u32]) -> Inferred
-    requires { ⌜ TableReady (now words) n (now cells) × (checkOf (now words) ≡ Accepted n) ⌝ }
-    ensures { λ r. ⌜ InfersWithWork (now (words .entry)) n (now (out .entry)) r (now (out .exit)) ⌝ }
+// Gives the cells of a tree of n nodes their most general types, if there are any. Cell 4 is the root's.
+fn types(words: &[u32], n: u32, cells: &mut [u32]) -> bool
+    requires { ⌜ TreeRoom (now words) n (now cells) ⌝ }
+    ensures { λ ok. ⌜ TypesFound (expAt (nodeAt (now (words .entry))) n 0) (now (cells .exit)) ok ⌝ }
 {
-    if rules::solve_table(words, cells, n) {
-        if ground::grounded(cells, 2 * n + 4) {
-            return write::write_type(cells, 4, out);
-        }
+    cells::start(cells);
+    if rules::nodes(words, cells, n) {
+        return cells::grounded(cells, 2 * n + 4);
+    }
+    false
+}
+
+// The answer that a written type gives.
+fn answer(written: Written) -> Inferred
+    ensures { λ r. ⌜ r ≡ answerOf written ⌝ }
+{
+    match written {
+        Written::Words(count) => Inferred::Typed(count),
+        Written::TooLong => Inferred::Refused { code: 7, place: 0 },
+    }
+}
+
+// The answer for a tree of n nodes, with cells for it.
+fn principal(words: &[u32], n: u32, cells: &mut [u32], out: &mut [u32]) -> Inferred
+    requires { ⌜ TreeRoom (now words) n (now cells) ⌝ }
+    ensures { λ r. ⌜ FormulaInfers (expAt (nodeAt (now (words .entry))) n 0) (now (out .entry)) r (now (out .exit)) ⌝ }
+{
+    if types(words, n, cells) {
+        return answer(cells::write_type(cells, 4, out));
     }
     Inferred::Refused { code: 6, place: 0 }
 }
 
-// The same in a slice of any words for its cells.
-fn in_cells(words: &[u32], n: u32, cells: &mut [u32], out: &mut [u32]) -> Inferred
-    requires { ⌜ TableRoom (now words) n (now cells) × (checkOf (now words) ≡ Accepted n) ⌝ }
-    ensures { λ r. ⌜ InfersWithWork (now (words .entry)) n (now (out .entry)) r (now (out .exit)) ⌝ }
+// The same with as many words of work as there must be, which are then cleared. Five of them are used for each cell.
+fn with_work(words: &[u32], n: u32, work: &mut [u32], out: &mut [u32]) -> Inferred
+    requires { ⌜ WorkRoom (now words) n (now work) ⌝ }
+    ensures answered { λ r. ⌜ FormulaInfers (expAt (nodeAt (now (words .entry))) n 0) (now (out .entry)) r (now (out .exit)) ⌝ }
+    ensures zeroed { λ r. ⌜ now (work .exit) ≡ zeros (workFor n) ⌝ }
 {
-    lent::clear(cells);
-    principal(words, n, cells, out)
+    let cells = 5 * (2 * (n as usize) + 4);
+    let inferred = principal(words, n, &mut work[..cells], out);
+    lent::clear(work);
+    inferred
 }
 
-// The answer for a checked table of n nodes: 5 where the work slice is too short, else its type. Five words of each of the cells are used.
+// The answer for a checked table of n nodes: 5 where the work slice is too short, else its type.
 fn accepted(words: &[u32], n: u32, work: &mut [u32], out: &mut [u32]) -> Inferred
     requires { ⌜ checkOf (now words) ≡ Accepted n ⌝ }
     ensures { λ r. ⌜ Infers (now (words .entry)) (now (work .entry)) (now (out .entry)) (leaves r (now (work .exit)) (now (out .exit))) ⌝ }
 {
-    let nodes = n as usize;
-    let size = 24 * nodes + 16;
+    let size = 24 * (n as usize) + 16;
     if work.len() < size {
         return Inferred::Refused { code: 5, place: 0 };
     }
-    let cells = 5 * (2 * nodes + 4);
-    let inferred = in_cells(words, n, &mut work[..cells], out);
-    lent::clear(&mut work[..size]);
-    inferred
+    with_work(words, n, &mut work[..size], out)
 }
 
 // The refusal of a check, handed up. An acceptance is none, and gives code 0.

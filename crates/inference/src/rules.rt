@@ -1,31 +1,16 @@
-// The equations of a table: each node contributes those of its rule. Cells 0 to 3 are bool, int, int → int and int → bool; after them
-// each node has a cell for its type and one for the type of the name that it binds.
-use crate::cells::TypeCell;
-use crate::cells::put;
-use crate::solve::join;
-use crate::solve::say;
+// The equations of a tree of nodes: each node contributes those of its rule. Cells 0 to 3 are bool, int, int → int and int → bool. After
+// them come two for each node: cell 2 k + 4 for the type of node k, and cell 2 k + 1 + 4 for the type of the name that it binds.
+use cells::TypeCell;
+use cells::join;
+use cells::say;
 use table::Bound;
 ghost use Prim.Native.Nat.{_≤_, _<_};
 ghost use mathlib.Core.Path.{_≡_};
-ghost use mathlib.Core.Bool.{true};
 ghost use Rattle.language.specs.Ty.{bool, _⇒_};
-ghost use Rattle.inference.specs.Layout.{cellsIn, Sound};
-ghost use Rattle.inference.specs.Solving.{Outcome};
-ghost use Rattle.inference.specs.TableCells.{typeCell, nameCell, Constants, givesCell, NodeReady, NameSolved, NodeSolved, NodesReady, NodesSolved, AllFree, TableReady, TableSolved};
-
-fn type_cell(k: u32) -> u32
-    requires { ⌜ k ≤ 4096 ⌝ }
-    ensures { λ r. ⌜ r ≡ typeCell k ⌝ }
-{
-    2 * k + 4
-}
-
-fn name_cell(k: u32) -> u32
-    requires { ⌜ k ≤ 4096 ⌝ }
-    ensures { λ r. ⌜ r ≡ nameCell k ⌝ }
-{
-    2 * k + 1 + 4
-}
+ghost use Rattle.cells.specs.Cells.{Fits};
+ghost use Rattle.cells.specs.Layout.{cellOf, cellsIn, Sound};
+ghost use Rattle.cells.specs.Interface.{Outcome};
+ghost use Rattle.inference.specs.TableCells.{typeCell, nameCell, givesCell, HasNode, NodeReady, NameSolved, NodeSolved, NodesReady, NodesSolved};
 
 // Operators 0 to 4 give an int after two, the others a bool: cell 2 or 3 after one.
 fn gives_cell(o: u32) -> u32
@@ -53,18 +38,39 @@ fn both(cells: &mut [u32], i: u32, j: u32, p: u32, q: u32) -> bool
     false
 }
 
-// (COND): the condition is a bool, and both branches have the type of the whole.
-fn condition(cells: &mut [u32], e0: u32, e1: u32, e2: u32, whole: u32) -> bool
-    requires { ⌜ Sound (now cells) × (e0 < cellsIn (now cells)) × (e1 < cellsIn (now cells)) × (e2 < cellsIn (now cells)) × (whole < cellsIn (now cells)) ⌝ }
-    ensures { λ ok. ⌜ Outcome (now (cells .entry)) (now (cells .exit)) (λ ρ. (ρ e0 ≡ bool) × ((ρ whole ≡ ρ e1) × (ρ whole ≡ ρ e2))) ok ⌝ }
+// (CONST) of unit, bool and int, whose tags are 2, 3 and 4.
+fn constant(cells: &mut [u32], k: u32, tag: u32) -> bool
+    requires { ⌜ Sound (now cells) × HasNode (now cells) k × (1 < tag) × (tag < 5) ⌝ }
+    ensures { λ ok. ⌜ Outcome (now (cells .entry)) (now (cells .exit)) (λ ρ. Fits ρ (typeCell k) (cellOf (record { tag = tag; a = 0; b = 0 }))) ok ⌝ }
 {
-    if say(cells, e0, TypeCell { tag: 3, a: 0, b: 0 }) {
-        return both(cells, whole, e1, whole, e2);
-    }
-    false
+    say(
+        cells,
+        2 * k + 4,
+        TypeCell {
+            tag: tag,
+            a: 0,
+            b: 0,
+        },
+    )
 }
 
-// (ID): a name has the type of its binder.
+// (CONST) of an operator.
+fn operator(cells: &mut [u32], k: u32, o: u32) -> bool
+    requires { ⌜ Sound (now cells) × HasNode (now cells) k ⌝ }
+    ensures { λ ok. ⌜ Outcome (now (cells .entry)) (now (cells .exit)) (λ ρ. ρ (typeCell k) ≡ ρ 1 ⇒ ρ (givesCell o)) ok ⌝ }
+{
+    say_arrow(cells, 2 * k + 4, 1, gives_cell(o))
+}
+
+// A name has the type that its binder gives it.
+fn bound_at(cells: &mut [u32], k: u32, b: u32) -> bool
+    requires { ⌜ Sound (now cells) × HasNode (now cells) k × HasNode (now cells) b ⌝ }
+    ensures { λ ok. ⌜ Outcome (now (cells .entry)) (now (cells .exit)) (λ ρ. ρ (typeCell k) ≡ ρ (nameCell b)) ok ⌝ }
+{
+    join(cells, 2 * k + 4, 2 * b + 1 + 4)
+}
+
+// (ID), by way of the name's binder.
 fn name(words: &[u32], cells: &mut [u32], k: u32) -> bool
     requires { ⌜ NodeReady (now words) k (now cells) ⌝ }
     ensures { λ ok. ⌜ Outcome (now (cells .entry)) (now (cells .exit)) (NameSolved (now (words .entry)) k) ok ⌝ }
@@ -73,53 +79,83 @@ fn name(words: &[u32], cells: &mut [u32], k: u32) -> bool
     let Bound::At(b) = bound else {
         return true;
     };
-    join(cells, type_cell(k), name_cell(b))
+    bound_at(cells, k, b)
+}
+
+// (APP): the left part takes the right part to the whole.
+fn application(cells: &mut [u32], k: u32, l: u32, r: u32) -> bool
+    requires { ⌜ Sound (now cells) × HasNode (now cells) k × HasNode (now cells) l × HasNode (now cells) r ⌝ }
+    ensures { λ ok. ⌜ Outcome (now (cells .entry)) (now (cells .exit)) (λ ρ. ρ (typeCell l) ≡ ρ (typeCell r) ⇒ ρ (typeCell k)) ok ⌝ }
+{
+    say_arrow(cells, 2 * l + 4, 2 * r + 4, 2 * k + 4)
+}
+
+// Both branches have the type of the whole.
+fn branches(cells: &mut [u32], k: u32, e1: u32, e2: u32) -> bool
+    requires { ⌜ Sound (now cells) × HasNode (now cells) k × HasNode (now cells) e1 × HasNode (now cells) e2 ⌝ }
+    ensures { λ ok. ⌜ Outcome (now (cells .entry)) (now (cells .exit)) (λ ρ. (ρ (typeCell k) ≡ ρ (typeCell e1)) × (ρ (typeCell k) ≡ ρ (typeCell e2))) ok ⌝ }
+{
+    both(cells, 2 * k + 4, 2 * e1 + 4, 2 * k + 4, 2 * e2 + 4)
+}
+
+// (COND): the condition is a bool, and both branches have the type of the whole.
+fn condition(cells: &mut [u32], k: u32, e0: u32, e1: u32, e2: u32) -> bool
+    requires { ⌜ Sound (now cells) × HasNode (now cells) k × HasNode (now cells) e0 × HasNode (now cells) e1 × HasNode (now cells) e2 ⌝ }
+    ensures { λ ok. ⌜ Outcome (now (cells .entry)) (now (cells .exit)) (λ ρ. (ρ (typeCell e0) ≡ bool) × ((ρ (typeCell k) ≡ ρ (typeCell e1)) × (ρ (typeCell k) ≡ ρ (typeCell e2)))) ok ⌝ }
+{
+    if constant(cells, e0, 3) {
+        return branches(cells, k, e1, e2);
+    }
+    false
+}
+
+// (ABSTR'): an arrow from the name's type to the body's.
+fn lambda(cells: &mut [u32], k: u32, body: u32) -> bool
+    requires { ⌜ Sound (now cells) × HasNode (now cells) k × HasNode (now cells) body ⌝ }
+    ensures { λ ok. ⌜ Outcome (now (cells .entry)) (now (cells .exit)) (λ ρ. ρ (typeCell k) ≡ ρ (nameCell k) ⇒ ρ (typeCell body)) ok ⌝ }
+{
+    say_arrow(cells, 2 * k + 4, 2 * k + 1 + 4, 2 * body + 4)
+}
+
+// (LET): the body's type, and the name has the bound expression's.
+fn let_in(cells: &mut [u32], k: u32, bound: u32, body: u32) -> bool
+    requires { ⌜ Sound (now cells) × HasNode (now cells) k × HasNode (now cells) bound × HasNode (now cells) body ⌝ }
+    ensures { λ ok. ⌜ Outcome (now (cells .entry)) (now (cells .exit)) (λ ρ. (ρ (typeCell k) ≡ ρ (typeCell body)) × (ρ (nameCell k) ≡ ρ (typeCell bound))) ok ⌝ }
+{
+    both(cells, 2 * k + 4, 2 * body + 4, 2 * k + 1 + 4, 2 * bound + 4)
+}
+
+// (REC'): the name and the body have the type of the whole.
+fn rec(cells: &mut [u32], k: u32, body: u32) -> bool
+    requires { ⌜ Sound (now cells) × HasNode (now cells) k × HasNode (now cells) body ⌝ }
+    ensures { λ ok. ⌜ Outcome (now (cells .entry)) (now (cells .exit)) (λ ρ. (ρ (typeCell k) ≡ ρ (nameCell k)) × (ρ (typeCell k) ≡ ρ (typeCell body))) ok ⌝ }
+{
+    both(cells, 2 * k + 4, 2 * k + 1 + 4, 2 * k + 4, 2 * body + 4)
 }
 
 // The equations of node k.
-pub(crate) fn node(words: &[u32], cells: &mut [u32], k: u32) -> bool
+fn node(words: &[u32], cells: &mut [u32], k: u32) -> bool
     requires { ⌜ NodeReady (now words) k (now cells) ⌝ }
     ensures { λ ok. ⌜ Outcome (now (cells .entry)) (now (cells .exit)) (NodeSolved (now (words .entry)) k) ok ⌝ }
 {
     let w = table::read(words, k);
     let kind = w.kind;
-    let t = type_cell(k);
     match kind {
-        // The tags of unit, bool and int are 2, 3 and 4.
-        0..=2 => say(
-            cells,
-            t,
-            TypeCell {
-                tag: kind + 2,
-                a: 0,
-                b: 0,
-            },
-        ),
-        3 => say_arrow(cells, t, 1, gives_cell(w.a)),
+        0..=2 => constant(cells, k, kind + 2),
+        3 => operator(cells, k, w.a),
         4 => name(words, cells, k),
-        5 => say_arrow(cells, type_cell(w.a), type_cell(w.b), t),
-        6 => condition(cells, type_cell(w.a), type_cell(w.b), type_cell(w.c), t),
-        7 => say_arrow(cells, t, name_cell(k), type_cell(w.b)),
-        8 => both(cells, t, type_cell(w.c), name_cell(k), type_cell(w.b)),
-        9 => both(cells, t, name_cell(k), t, type_cell(w.b)),
+        5 => application(cells, k, w.a, w.b),
+        6 => condition(cells, k, w.a, w.b, w.c),
+        7 => lambda(cells, k, w.b),
+        8 => let_in(cells, k, w.b, w.c),
+        9 => rec(cells, k, w.b),
         // An unknown kind, which no checked table has, reads as unit.
-        _ => say(cells, t, TypeCell { tag: 2, a: 0, b: 0 }),
+        _ => constant(cells, k, 2),
     }
 }
 
-// The four constants, in cells that are all free.
-fn constants(cells: &mut [u32])
-    requires { ⌜ AllFree (now cells) ⌝ }
-    ensures { λ r. ⌜ Outcome (now (cells .entry)) (now (cells .exit)) Constants true ⌝ }
-{
-    put(cells, 0, TypeCell { tag: 3, a: 0, b: 0 });
-    put(cells, 1, TypeCell { tag: 4, a: 0, b: 0 });
-    put(cells, 2, TypeCell { tag: 5, a: 1, b: 1 });
-    put(cells, 3, TypeCell { tag: 5, a: 1, b: 0 });
-}
-
-// The equations of all nodes, one after the other.
-fn nodes(words: &[u32], cells: &mut [u32], n: u32) -> bool
+// The equations of all nodes, one after the other: can they be solved without a clash?
+pub(crate) fn nodes(words: &[u32], cells: &mut [u32], n: u32) -> bool
     requires { ⌜ NodesReady (now words) n (now cells) ⌝ }
     ensures { λ ok. ⌜ Outcome (now (cells .entry)) (now (cells .exit)) (NodesSolved (now (words .entry)) n) ok ⌝ }
 {
@@ -132,13 +168,4 @@ fn nodes(words: &[u32], cells: &mut [u32], n: u32) -> bool
         }
     }
     true
-}
-
-// The equations of a table, in cells that are all free: can they be solved without a clash?
-pub(crate) fn solve_table(words: &[u32], cells: &mut [u32], n: u32) -> bool
-    requires { ⌜ TableReady (now words) n (now cells) ⌝ }
-    ensures { λ ok. ⌜ Outcome (now (cells .entry)) (now (cells .exit)) (TableSolved (now (words .entry)) n) ok ⌝ }
-{
-    constants(cells);
-    nodes(words, cells, n)
 }

@@ -36,6 +36,9 @@ pub mod Unification
 pub mod MostGeneral
 pub mod Elimination
 pub mod UnificationCorrect
+-- Counting.
+pub mod Once
+pub mod Count
 -- Worked examples, most of them the lecture notes' own.
 pub mod Notation
 pub mod StepExamples

@@ -1,9 +1,9 @@
--- `inference::accepted` meets its contract: the words of the cells are lent first, then all that are to be zero.
+-- `inference::accepted` meets its contract.
 use mathlib.Core.Path.{refl, sym}
 use native.Mathlib.Omega.{arith}
-use Rattle.inference.specs.Inference.{work-short}
-use Rattle.inference.specs.InferCall.{cells-within, cells-lent, room-for-cells, work-lent, answered}
 use borrow.Author.Needs.{needs}
+use Rattle.inference.specs.Inference.{work-short}
+use Rattle.inference.specs.InferCall.{room-for-work, answered}
 use Rattle.inference.proofs.accepted.Statement.{statement}
 use Rattle.inference.proofs.accepted.Tie as tie
 
@@ -16,42 +16,18 @@ add-size c = search needs
 returns : tie.Need-returns
 returns c = work-short (c .before .before .before .before .pre) (omega (arith, c .if1 .taken)) refl
 
-mul-cells : tie.Need-mul-cells
-mul-cells c = search needs
+slice-relend-prefix-with-work : tie.Need-slice-relend-prefix-with-work
+slice-relend-prefix-with-work c = search needs
 
-add-cells : tie.Need-add-cells
-add-cells c = search needs
+slice-aggregate-with-work : tie.Need-slice-aggregate-with-work
+slice-aggregate-with-work c =
+    let start = c .before .before .before .before .before in
+    sym (room-for-work (start .pre) (start .args .work .now) (c .before .if1 .left) .whole)
 
-mul-cells-2 : tie.Need-mul-cells-2
-mul-cells-2 c = search needs
-
-slice-relend-prefix-in-cells : tie.Need-slice-relend-prefix-in-cells
-slice-relend-prefix-in-cells c =
-    let call = c .before .before .before .before in
-    cells-within (call .args .words .now) (call .args .n) (call .pre) (call .args .work .now) (omega (arith, c .if1 .left))
-
-slice-aggregate-in-cells : tie.Need-slice-aggregate-in-cells
-slice-aggregate-in-cells c =
-    let call = c .before .before .before .before .before in
-    sym (cells-lent (call .args .words .now) (call .args .n) (call .pre) (call .args .work .now) (c .before .if1 .left))
-
-in-cells-requires : tie.Need-in-cells-requires
-in-cells-requires c κs =
-    let call = c .before .before .before .before .before .before in
-    (room-for-cells (call .args .words .now) (call .args .n) (call .pre) (call .args .work .now) (c .before .before .if1 .left), call .pre)
-
-slice-relend-prefix-clear : tie.Need-slice-relend-prefix-clear
-slice-relend-prefix-clear c = search needs
-
-slice-aggregate-clear : tie.Need-slice-aggregate-clear
-slice-aggregate-clear c =
-    let lent = c .before .before .before .before .before in
-    let tested = lent .before .before .before in
-    let call = tested .before .before .before .before in
-    sym (work-lent (call .args .words .now) (call .args .n) (call .pre) (call .args .work .now) (tested .if1 .left) (lent .in-cells .last .1 .1 .0) (lent .in-cells .kept .1 .1 .0))
-
-clear-requires : tie.Need-clear-requires
-clear-requires c κs = search needs
+with-work-requires : tie.Need-with-work-requires
+with-work-requires c κs =
+    let start = c .before .before .before .before .before .before in
+    room-for-work (start .pre) (start .args .work .now) (c .before .before .if1 .left)
 
 same-length : tie.Need-same-length
 same-length c = search needs
@@ -61,14 +37,10 @@ same-length-2 c = search needs
 
 returns-2 : tie.Need-returns-2
 returns-2 c =
-    let cleared = c .before .before in
-    let lent = cleared .before .before .before .before .before .before in
-    let tested = lent .before .before .before in
-    let call = tested .before .before .before .before in
-    answered (call .args .words .now) (call .args .n) (call .pre) (call .args .work .now) (tested .if1 .left) (lent .in-cells .last .1 .1 .0)
-    (lent .in-cells .kept .1 .1 .0)
-    (lent .in-cells .ensures)
-    (cleared .clear .ensures)
+    let done = c .before .before .before .before in
+    let test = done .before .before .before in
+    let start = test .before .before .before .before in
+    answered (start .pre) (start .args .work .now) (test .if1 .left) (done .with-work .ensures .0) (done .with-work .ensures .1)
 
 pub accepted-spec : {M : Type 1} → statement M
 accepted-spec =
@@ -77,15 +49,9 @@ accepted-spec =
     mul-size
     add-size
     returns
-    mul-cells
-    add-cells
-    mul-cells-2
-    slice-relend-prefix-in-cells
-    slice-aggregate-in-cells
-    in-cells-requires
-    slice-relend-prefix-clear
-    slice-aggregate-clear
-    clear-requires
+    slice-relend-prefix-with-work
+    slice-aggregate-with-work
+    with-work-requires
     same-length
     same-length-2
     returns-2)

@@ -1,7 +1,7 @@
 -- `inference::infer` meets its contract, by the verdict of the check.
 use mathlib.Core.Path.{sym, _∙_}
-use Rattle.inference.specs.InferCall.{refused-answer}
 use borrow.Author.Needs.{needs}
+use Rattle.inference.specs.InferCall.{refused-answer}
 use Rattle.inference.proofs.infer.Statement.{statement}
 use Rattle.inference.proofs.infer.Tie as tie
 

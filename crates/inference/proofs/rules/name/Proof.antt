@@ -1,6 +1,6 @@
 -- `inference::rules::name` meets its contract.
-use Rattle.inference.specs.RuleLaws.{few, type-inside, name-inside, binder-below, name-solved, unbound-solved}
 use borrow.Author.Needs.{needs}
+use Rattle.inference.specs.RuleLaws.{binder-ready, name-solved, unbound-solved}
 use Rattle.inference.proofs.rules.name.Statement.{statement}
 use Rattle.inference.proofs.rules.name.Tie as tie
 
@@ -14,22 +14,25 @@ enum-told : tie.Need-enum-told
 enum-told c = search needs
 
 returns : tie.Need-returns
-returns c = unbound-solved (c .before .before .before .before .before .pre) (c .before .before .binder .ensures) (c .enum-told .given .1)
+returns c =
+    let asked = c .before .before in
+    unbound-solved (asked .before .before .before .pre) (asked .binder .ensures) (c .enum-told .given .1)
 
-type-cell-requires : tie.Need-type-cell-requires
-type-cell-requires c κs = search needs
-
-name-cell-requires : tie.Need-name-cell-requires
-name-cell-requires c κs = few (c .before .before .before .before .before .before .before .before .pre) (binder-below (c .before .before .before .before .before .before .before .before .pre) (c .before .before .before .before .before .binder .ensures) (c .before .before .before .bound .given .1))
-
-join-requires : tie.Need-join-requires
-join-requires c κs = (c .before .before .before .before .before .before .before .before .before .pre .cells .sound, rw (c .before .type-cell .ensures) (type-inside (c .before .before .before .before .before .before .before .before .before .pre) (c .before .before .before .before .before .before .before .before .before .pre .below)), rw (c .name-cell .ensures) (name-inside (c .before .before .before .before .before .before .before .before .before .pre) (binder-below (c .before .before .before .before .before .before .before .before .before .pre) (c .before .before .before .before .before .before .binder .ensures) (c .before .before .before .before .bound .given .1))))
+bound-at-requires : tie.Need-bound-at-requires
+bound-at-requires c κs =
+    let told = c .before .before in
+    let asked = told .before .before in
+    binder-ready (asked .before .before .before .pre) (asked .binder .ensures) (told .bound .given .1)
 
 same-length : tie.Need-same-length
 same-length c = search needs
 
 returns-2 : tie.Need-returns-2
-returns-2 c = name-solved (c .before .before .before .before .before .before .before .before .before .before .before .before .pre) (c .before .before .before .before .before .before .before .before .before .binder .ensures) (c .before .before .join .result) (c .before .before .before .before .before .before .before .bound .given .1) (rw (c .before .before .before .before .type-cell .ensures, c .before .before .before .name-cell .ensures) at (c .before .before .join .ensures))
+returns-2 c =
+    let joined = c .before .before in
+    let told = joined .before .before .before in
+    let asked = told .before .before in
+    name-solved (asked .before .before .before .pre) (asked .binder .ensures) (told .bound .given .1) (joined .bound-at .ensures)
 
 pub name-spec : {M : Type 1} → statement M
 name-spec =
@@ -39,8 +42,6 @@ name-spec =
     enum-known-bound
     enum-told
     returns
-    type-cell-requires
-    name-cell-requires
-    join-requires
+    bound-at-requires
     same-length
     returns-2)

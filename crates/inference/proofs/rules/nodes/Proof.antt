@@ -3,8 +3,8 @@ use Prim.Native.Nat.{_-_, _≤_}
 use mathlib.Core.Path.{_≡_, _∙_}
 use mathlib.Core.Bool.{true}
 use native.Mathlib.Omega.{arith}
-use Rattle.inference.specs.Solving.{Outcome}
-use Rattle.inference.specs.Outcomes.{outcome-is}
+use Rattle.cells.specs.Interface.{Outcome}
+use Rattle.cells.specs.Outcomes.{outcome-is}
 use Rattle.inference.specs.TableCells.{NodesSolved}
 use Rattle.inference.specs.TableLaws.{no-node-yet, next-ready, node-solved-too, node-fails}
 use Rattle.inference.proofs.rules.nodes.Statement.{statement}
@@ -29,22 +29,36 @@ loop-less : tie.Need-loop-less Inv-loop μ-loop
 loop-less c = omega arith
 
 loop-again : tie.Need-loop-again Inv-loop μ-loop
-loop-again c = (omega arith, node-solved-too (c .before .before .before .before .before .before .before .before .before .pre) (c .before .before .before .before .before .loop-test .taken) (c .before .before .before .before .before .before .loop .inv .1) (outcome-is (c .before .before .before .node .ensures) (c .if1 .taken)))
+loop-again c =
+    let solved = c .before .before .before in
+    let test = solved .before .before in
+    let loop = test .before in
+    let all = loop .before .before .before .pre in
+    (omega arith, node-solved-too all (test .loop-test .taken) (loop .loop .inv .1) (outcome-is (solved .node .ensures) (c .if1 .taken)))
 
 same-length : tie.Need-same-length Inv-loop μ-loop
-same-length c = c .before .before .before .node .ensures .same-length ∙ c .before .before .before .before .before .before .loop .inv .1 .same-length
+same-length c =
+    let solved = c .before .before .before in
+    let so-far = solved .before .before .before .loop .inv .1 in
+    solved .node .ensures .same-length ∙ so-far .same-length
 
 returns : tie.Need-returns Inv-loop μ-loop
-returns c = node-fails (c .before .before .before .before .before .before .before .before .before .pre) (c .before .before .before .before .before .loop-test .taken) (c .before .before .before .before .before .before .loop .inv .1) (outcome-is (c .before .before .before .node .ensures) (c .if1 .left))
+returns c =
+    let solved = c .before .before .before in
+    let test = solved .before .before in
+    let loop = test .before in
+    let all = loop .before .before .before .pre in
+    node-fails all (test .loop-test .taken) (loop .loop .inv .1) (outcome-is (solved .node .ensures) (c .if1 .left))
 
 same-length-2 : tie.Need-same-length-2 Inv-loop μ-loop
 same-length-2 c = c .before .loop .inv .1 .same-length
 
 returns-2 : tie.Need-returns-2 Inv-loop μ-loop
 returns-2 c =
-    let low = c .before .loop .inv .0 in
-    let all : c .before .loop .k ≡ c .before .before .before .before .args .n = omega arith in
-    rw all at (c .before .loop .inv .1)
+    let loop = c .before in
+    let (low, so-far) = loop .loop .inv in
+    let all : loop .loop .k ≡ loop .before .before .before .args .n = omega arith in
+    rw all at so-far
 
 pub nodes-spec : {M : Type 1} → statement M
 nodes-spec =

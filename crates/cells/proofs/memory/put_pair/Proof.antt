@@ -1,0 +1,48 @@
+-- `cells::memory::put_pair` meets its contract: two words written in a row are the pair.
+use native.Mathlib.Omega.{arith}
+use lib.ListN.{length-set}
+use borrow.Author.Needs.{needs}
+use Rattle.cells.specs.LayoutLaws.{pair-put}
+use Rattle.cells.proofs.memory.put_pair.Statement.{statement}
+use Rattle.cells.proofs.memory.put_pair.Tie as tie
+
+mul-at : tie.Need-mul-at
+mul-at c = search needs
+
+add-cells : tie.Need-add-cells
+add-cells c = search needs
+
+mul-cells : tie.Need-mul-cells
+mul-cells c = search needs
+
+slice-write-cells : tie.Need-slice-write-cells
+slice-write-cells c = search needs
+
+add-cells-2 : tie.Need-add-cells-2
+add-cells-2 c = search needs
+
+mul-cells-2 : tie.Need-mul-cells-2
+mul-cells-2 c = search needs
+
+slice-write-cells-2 : tie.Need-slice-write-cells-2
+slice-write-cells-2 c = simp length-set (omega arith)
+
+same-length : tie.Need-same-length
+same-length c = search needs
+
+returns : tie.Need-returns
+returns c = pair-put (c .args .cells .now) (c .args .i) (c .args .p) (c .pre)
+
+pub put-pair-spec : {M : Type 1} → statement M
+put-pair-spec =
+    tie.close
+    (tie.spec
+    mul-at
+    add-cells
+    mul-cells
+    slice-write-cells
+    add-cells-2
+    mul-cells-2
+    slice-write-cells-2
+    same-length
+    returns)

@@ -1,0 +1,66 @@
+-- `inference::types` meets its contract.
+use mathlib.Core.Path.{_∙_}
+use borrow.Author.Needs.{needs}
+use Rattle.cells.specs.Outcomes.{outcome-is, met-sound}
+use Rattle.inference.specs.TableLaws.{started-ready}
+use Rattle.inference.specs.Principality.{clash-found, tested-found}
+use Rattle.inference.proofs.types.Statement.{statement}
+use Rattle.inference.proofs.types.Tie as tie
+
+start-requires : tie.Need-start-requires
+start-requires c κs = search needs
+
+nodes-requires : tie.Need-nodes-requires
+nodes-requires c κs =
+    let new = c .before .before .before in
+    started-ready (new .before .before .before .before .pre) (new .start .ensures)
+
+mul-grounded : tie.Need-mul-grounded
+mul-grounded c = search needs
+
+add-grounded : tie.Need-add-grounded
+add-grounded c = search needs
+
+grounded-requires : tie.Need-grounded-requires
+grounded-requires c κs =
+    let solved = c .before .before .before .before in
+    let new = solved .before .before .before .before in
+    let room = new .before .before .before .before .pre in
+    let same = solved .nodes .ensures .same-length ∙ new .start .ensures .same-length ∙ room .whole in
+    (met-sound (solved .nodes .ensures) (c .before .if1 .taken), same)
+
+same-length : tie.Need-same-length
+same-length c = search needs
+
+returns : tie.Need-returns
+returns c =
+    let tested = c .before .before in
+    let asked = tested .before .before in
+    let solved = asked .before .before .before in
+    let new = solved .before .before .before .before in
+    let room = new .before .before .before .before .pre in
+    tested-found room (new .start .ensures) (outcome-is (solved .nodes .ensures) (asked .if1 .taken)) _ (tested .grounded .ensures)
+
+same-length-2 : tie.Need-same-length-2
+same-length-2 c = search needs
+
+returns-2 : tie.Need-returns-2
+returns-2 c =
+    let solved = c .before .before .before in
+    let new = solved .before .before .before .before in
+    let room = new .before .before .before .before .pre in
+    clash-found room (new .start .ensures) (outcome-is (solved .nodes .ensures) (c .if1 .left))
+
+pub types-spec : {M : Type 1} → statement M
+types-spec =
+    tie.close
+    (tie.spec
+    start-requires
+    nodes-requires
+    mul-grounded
+    add-grounded
+    grounded-requires
+    same-length
+    returns
+    same-length-2
+    returns-2)
