@@ -11,12 +11,7 @@ use Rattle.inference.specs.declared.Inferred.the-variants.{Typed, Refused as No
 use Rattle.machine.specs.Answers.{codeOf as runCode, payloadOf}
 use Rattle.machine.specs.declared.Answer.{Answer}
 use Rattle.machine.specs.declared.Ran.{Ran}
-use Rattle.formula.specs.Decimal.{decimal, signedDecimal}
-
--- Each with a space before it.
-unfoldable pub spaced : List (List ℕ) → List ℕ
-spaced [] = []
-spaced (text ∷ others) = 32 ∷ text ++ spaced others
+use Rattle.decimal.specs.Decimal.{decimal, signedDecimal, spaced}
 
 -- A line: single spaces between its texts, and byte 10 at the end.
 abbrev pub line : List ℕ → List (List ℕ) → List ℕ
@@ -32,8 +27,11 @@ abbrev pub typeWords : Inferred → List ℕ → List ℕ
 typeWords (Typed count) out = take count out
 typeWords (NoType code place) out = []
 
+abbrev pub typeNumbers : Inferred → List ℕ → List (List ℕ)
+typeNumbers answer out = decimal (typeCode answer) ∷ decimal (placeOf answer) ∷ map decimal (typeWords answer out)
+
 abbrev pub typeLine : Inferred → List ℕ → List ℕ
-typeLine answer out = line typeText (decimal (typeCode answer) ∷ decimal (placeOf answer) ∷ map decimal (typeWords answer out))
+typeLine answer out = line typeText (typeNumbers answer out)
 
 -- ---- `run CODE PAYLOAD STEPS BINDINGS`
 

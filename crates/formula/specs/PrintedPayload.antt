@@ -10,8 +10,8 @@ use Rattle.machine.specs.Runs.{RunIs}
 use Rattle.machine.specs.AnswerNumbers.{payload-below-512}
 use Rattle.machine.specs.declared.Ran.{Ran}
 use Rattle.formula.specs.Lines.{printedPayload}
-use Rattle.formula.specs.PrintingLaws.{plain-payload}
+use Rattle.decimal.specs.TextLaws.{not-negative}
 
 pub printed-as-it-is : {words bindings frames bindings′ frames′ : List ℕ} {fuel : ℕ} {r : Ran} → RunIs words fuel bindings frames bindings′ frames′ r → codeOf (r .answer) ≢ 10 →
     printedPayload (r .answer) ≡ pos (payloadOf (r .answer))
-printed-as-it-is {r = r} x other = plain-payload (payloadOf (r .answer)) (omega (arith, payload-below-512 x other))
+printed-as-it-is {r = r} x other = not-negative (payloadOf (r .answer)) (omega (arith, payload-below-512 x other))

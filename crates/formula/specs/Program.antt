@@ -7,7 +7,7 @@ use lib.ListN.{replicate}
 use Rattle.inference.specs.Inference.{After, Infers}
 use Rattle.machine.specs.Runs.{RunIs}
 use Rattle.machine.specs.declared.Ran.{Ran}
-use Rattle.formula.specs.Input.{wordsIn}
+use Rattle.decimal.specs.Input.{wordsIn}
 use Rattle.formula.specs.Lines.{typeLine, runLine, inputLine}
 
 -- The answers to a table, as two lines: work slice 12,304 words, out slice 64 words, fuel 100000, capacities 512 each, at eight words a cell.
@@ -22,5 +22,5 @@ pub record TwoLines (words text : List ℕ) : Type 0 where
 
 -- An input that has no words gives the one line `input`.
 pub data Prints (input text : List ℕ) : Type 0 where
-  no-words : wordsIn input ≡ none → text ≡ inputLine → Prints input text
-  answered : {words : List ℕ} → wordsIn input ≡ some words → TwoLines words text → Prints input text
+  no-words : wordsIn 2048 input ≡ none → text ≡ inputLine → Prints input text
+  answered : {words : List ℕ} → wordsIn 2048 input ≡ some words → TwoLines words text → Prints input text

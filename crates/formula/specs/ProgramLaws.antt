@@ -1,28 +1,50 @@
 -- The program's parts together.
-use Prim.Native.Nat.{ℕ}
+use Prim.Native.Nat.{ℕ, _≤_}
 use mathlib.Core.Path.{_≡_, refl, sym, _∙_, ap}
 use mathlib.Core.List.{List, [], _∷_, _++_}
+use mathlib.Core.Option.{Option, none, some}
 use native.Mathlib.Omega.{arith}
 use lib.ListN.{length, take, replicate, length-replicate}
+use Rattle.lent.specs.Written.{Written, WrittenWithin}
+use Rattle.lent.specs.WrittenLaws.{written-length, within-then}
+use Rattle.lent.specs.Writing.{first-written}
+use Rattle.decimal.specs.Input.{wordsIn}
+use Rattle.decimal.specs.Scan.{ScanState, Ends, found, wordsFound}
+use Rattle.decimal.specs.Decimal.{spaced}
+use Rattle.decimal.specs.ScanIsWordsIn.{scan-is-words-in}
+use Rattle.decimal.specs.declared.Ended.{Ended}
 use Rattle.inference.specs.Inference.{After, leaves, Infers}
 use Rattle.inference.specs.TypeWithin.{type-within}
 use Rattle.inference.specs.declared.Inferred.{Inferred}
 use Rattle.inference.specs.declared.Inferred.the-variants.{Typed, Refused}
 use Rattle.machine.specs.Runs.{RunIs}
 use Rattle.machine.specs.declared.Ran.{Ran}
-use Rattle.formula.specs.Input.{wordsIn}
-use Rattle.formula.specs.Scan.{ScanState, scanned, finish}
-use Rattle.formula.specs.ScanIsWordsIn.{scan-is-words-in}
-use Rattle.formula.specs.Scanning.{scannedWords, EndsWith}
-use Rattle.formula.specs.Lines.{spaced, typeLine, runLine, inputText}
-use Rattle.formula.specs.Putting.{TextPut, PutWithin, TypeFits, put-then}
-use Rattle.formula.specs.Program.{no-words, answered}
-use Rattle.formula.specs.TwoLinesIn.{TwoLinesIn}
+use Rattle.formula.specs.Lines.{typeLine, runLine, inputText, inputLine}
+use Rattle.formula.specs.LineLaws.{TypeFits}
+use Rattle.formula.specs.Program.{TwoLines, no-words, answered}
+use Rattle.formula.specs.Reading.{inputScanned}
 use Rattle.formula.specs.Responding.{Responds}
-use Rattle.formula.specs.declared.scan.Ended.{Ended}
-use Rattle.formula.specs.declared.scan.Ended.the-variants.{Words, Failed as NoWords}
 
 -- ---- The two lines
+
+-- The line of a table's inference, at the beginning of a text.
+pub record TypeLineIn (words before after : List ℕ) (next : ℕ) : Type 0 where
+  pub inferred : After
+  pub infers : Infers words (replicate 12304 0) (replicate 64 0) inferred
+  pub line : WrittenWithin 731 before 0 (typeLine (inferred .answer) (inferred .out)) after next
+
+-- The line of a table's run.
+pub record RunLineIn (words before : List ℕ) (at : ℕ) (after : List ℕ) (next : ℕ) : Type 0 where
+  pub ran : Ran
+  pub bindings : List ℕ
+  pub frames : List ℕ
+  pub runs : RunIs words 100000 (replicate 4096 0) (replicate 4096 0) bindings frames ran
+  pub line : WrittenWithin 49 before at (runLine ran) after next
+
+-- The first n bytes of the text are a table's two lines.
+pub record TwoLinesIn (words text : List ℕ) (n : ℕ) : Type 0 where
+  pub inside : n ≤ length text
+  pub lines : TwoLines words (take n text)
 
 pub so-many-zeros : (n : ℕ) {made : List ℕ} → made ≡ replicate n 0 → n ≡ length made
 so-many-zeros n is = sym (ap length is ∙ length-replicate n 0)
@@ -34,35 +56,43 @@ type-fits {words} {work} {out} {work′} {out′} {a} i same same′ = go a i
     go (Typed count) i = (omega (arith, type-within i refl), omega arith)
     go (Refused code place) i = tt
 
-pub two-lines-put : {words text text₁ text₂ : List ℕ} {at₁ at₂ : ℕ} {after : After} {ran : Ran} {bindings frames : List ℕ} → length text ≡ 1024 →
-    Infers words (replicate 12304 0) (replicate 64 0) after → RunIs words 100000 (replicate 4096 0) (replicate 4096 0) bindings frames ran →
-    PutWithin 731 text 0 (typeLine (after .answer) (after .out)) text₁ at₁ → PutWithin 49 text₁ at₁ (runLine ran) text₂ at₂ → TwoLinesIn words text₂ at₂
-two-lines-put {after = after} {ran} {bindings} {frames} size infers runs type run = record {
-  inside = omega (arith, type .ends, run .ends, type .put .same-length, run .put .same-length);
-  lines = record {
-    after = after;
-    infers = infers;
-    ran = ran;
-    bindings = bindings;
-    frames = frames;
-    runs = runs;
-    is = put-then (type .put) (run .put) .there;
-  };
-}
+pub two-lines-fit : {words text text₁ text₂ : List ℕ} {at₁ at₂ : ℕ} → length text ≡ 1024 → TypeLineIn words text text₁ at₁ → RunLineIn words text₁ at₁ text₂ at₂ → TwoLinesIn words text₂ at₂
+two-lines-fit size type run =
+    let both = within-then (type .line) (run .line) in
+    record {
+      inside = omega (arith, both .few, both .written .next-is, written-length (both .written));
+      lines = record {
+        after = type .inferred;
+        infers = type .infers;
+        ran = run .ran;
+        bindings = run .bindings;
+        frames = run .frames;
+        runs = run .runs;
+        is = first-written (both .written) (omega (arith, both .few));
+      };
+    }
 
 -- ---- The response
 
-module _ {state : ScanState} {words : List ℕ} {ended : Ended} (ends : EndsWith words ended (finish state)) where
-  -- The words of every input that leads to the state.
-  found : (input : List ℕ) → scanned input ≡ state → wordsIn input ≡ scannedWords words ended
-  found input leads = sym (scan-is-words-in input) ∙ ap finish leads ∙ sym (ends .is)
+-- The first n bytes of the text are the lines for what was found in an input.
+pub data LinesFor (words : Option (List ℕ)) (text : List ℕ) (n : ℕ) : Type 0 where
+  input-line : words ≡ none → n ≤ length text → take n text ≡ inputLine → LinesFor words text n
+  table-lines : {table : List ℕ} → words ≡ some table → TwoLinesIn table text n → LinesFor words text n
 
-  pub responds-lines : {count n : ℕ} {text : List ℕ} → ended ≡ Words count → TwoLinesIn (take count words) text n → Responds state text n
-  responds-lines is two = record { inside = two .inside; to = λ input leads. answered (found input leads ∙ ap (scannedWords words) is) (two .lines) }
+pub input-line-fits : {n : ℕ} {text text′ : List ℕ} → length text ≡ 1024 → Written text 0 (inputText ++ 10 ∷ []) text′ n → LinesFor none text′ n
+unfolding spaced
+input-line-fits size w = input-line refl (omega (arith, w .next-is, written-length w)) (first-written w (omega arith))
 
-  pub responds-input : {n : ℕ} {text text′ : List ℕ} → ended ≡ NoWords → length text ≡ 1024 → TextPut text 0 (inputText ++ 10 ∷ []) text′ n → Responds state text′ n
-  unfolding spaced
-  responds-input is size put = record {
-    inside = omega (arith, put .next-is, put .same-length);
-    to = λ input leads. no-words (found input leads ∙ ap (scannedWords words) is) (put .there);
-  }
+pub input-words : (input : List ℕ) → wordsFound (inputScanned input) ≡ wordsIn 2048 input
+input-words input = rw (← length-replicate {A = ℕ} 2048 0) (scan-is-words-in (replicate 2048 0) input)
+
+pub responds : {state : ScanState} {words text : List ℕ} {ended : Ended} {n : ℕ} → Ends state words ended → LinesFor (found ended words) text n → Responds state text n
+responds {state} {words} {text} {ended} {n} ends lines = go lines
+  where
+    -- The words of every input that leads to the state.
+    words-are : (input : List ℕ) → inputScanned input ≡ state → wordsIn 2048 input ≡ found ended words
+    words-are input leads = sym (input-words input) ∙ ap wordsFound leads ∙ sym (rw (ends .is, ends .words-are))
+
+    go : LinesFor (found ended words) text n → Responds state text n
+    go (input-line none-found inside is) = record { inside = inside; to = λ input leads. no-words (words-are input leads ∙ none-found) is }
+    go (table-lines is two) = record { inside = two .inside; to = λ input leads. answered (words-are input leads ∙ is) (two .lines) }

@@ -1,27 +1,28 @@
 -- A read by its answer, and one read after the other.
 use Prim.Native.Nat.{ℕ, zero, suc, _+_, _-_, _≤_, _<_, min}
 use mathlib.Core.Path.{_≡_, refl, sym, _∙_, ap}
-use mathlib.Core.Bool.{Bool, true, false, not}
+use mathlib.Core.Bool.{Bool, true, false, cond}
 use mathlib.Core.List.{List, [], _∷_, _++_, foldl, flatten, append-nil, append-assoc}
 use native.Mathlib.Omega.{arith}
 use native.Mathlib.Nat.{not-suc-le-zero}
-use lib.ListN.{length, take, length-append, length-take}
+use lib.Dec.{ltb}
+use lib.ListN.{length, take, replicate, length-append, length-take}
 use lib.IntN.{ℤ, pos, negsuc}
 use lib.Seq.{length-take-le}
 use lib.Signed.{mag, ltZ, leZ}
 use mir.Syntax.{w64}
 use mir.Val.{toZ, ofZ, SFits}
 use mir.Facts.{toZ-ofZ}
-use borrow.Author.Tests.{ltb-true, leb-true, not-true, not-false}
+use borrow.Author.Tests.{ltb-true, ltb-false, leb-true}
 use Rattle.io.specs.Counts.{clamped}
 use Rattle.libc.specs.Io.{Moved}
-use Rattle.formula.specs.Scan.{ScanState, failed, scanByte, scanned}
-use Rattle.formula.specs.ScanIsWordsIn.{scan-in-pieces}
-use Rattle.formula.specs.Scanning.{scanStateOf, Stands}
-use Rattle.formula.specs.Reading.{NoneEmpty, no-piece, one-more, afterReads, ReadingEnds, at-the-end, scan-failed, read-failed, turns-used-up}
-use Rattle.formula.specs.Turns.{afterRead, hasNotFailed, readsOn, PieceRead, InputRead}
-use Rattle.formula.specs.declared.scan.Scanner.{Scanner}
-use Rattle.formula.specs.declared.scan.Scanner.the-variants.{Failed, Between, Inside}
+use Rattle.decimal.specs.Scan.{ScanState, stands, slice, scanByte}
+use Rattle.decimal.specs.ScanIsWordsIn.{scan-in-pieces}
+use Rattle.decimal.specs.ScanLaws.{scan-keeps-length}
+use Rattle.decimal.specs.declared.Scanner.{Scanner}
+use Rattle.decimal.specs.declared.Scanner.the-variants.{Failed, Between, Inside}
+use Rattle.formula.specs.Reading.{NoneEmpty, no-piece, one-more, inputScanned, givenUp, afterReads, ReadingEnds, at-the-end, scan-failed, read-failed, turns-used-up}
+use Rattle.formula.specs.Turns.{afterRead, hasNotFailed, readsOn, hasTurn, PieceRead, InputRead}
 use Rattle.formula.specs.declared.read.Turn.{Turn}
 
 -- ---- What a read answered
@@ -55,10 +56,10 @@ module _ {got : ℤ} (fits : SFits w64 got) where
       go (pos (suc n)) test = refl
       go (negsuc k) test = absurd (let z : _≡_ {A = ℕ} 0 1 = cc in omega arith)
 
-  pub failed-read : (start : ScanState) (piece : List ℕ) → ltZ (toZ w64 (ofZ w64 got)) (pos 0) ≡ true → failed ≡ afterRead start got piece
+  pub failed-read : (start : ScanState) (piece : List ℕ) → ltZ (toZ w64 (ofZ w64 got)) (pos 0) ≡ true → givenUp start ≡ afterRead start got piece
   failed-read start piece test = go got (rw (toZ-ofZ fits) at test)
     where
-      go : (got : ℤ) → ltZ got (pos 0) ≡ true → failed ≡ afterRead start got piece
+      go : (got : ℤ) → ltZ got (pos 0) ≡ true → givenUp start ≡ afterRead start got piece
       go (pos n) test = absurd (omega (arith, ltb-true n 0 test))
       go (negsuc k) test = refl
 
@@ -69,13 +70,6 @@ module _ {got : ℤ} (fits : SFits w64 got) where
       go : (got : ℤ) → ltZ got (pos 0) ≡ false → foldl scanByte start (take (clamped got (length piece)) piece) ≡ afterRead start got piece
       go (pos n) test = ap (foldl scanByte start) (take-within n piece)
       go (negsuc k) test = absurd (let z : _≡_ {A = ℕ} 0 1 = cc in omega arith)
-
-module _ (t : Turn) {on : Bool} (fits : mag (t .got) < 9223372036854775808) (is : on ≡ readsOn (toZ w64 (ofZ w64 (t .got))) (t .at)) where
-  pub going-on : not on ≡ false → readsOn (t .got) (t .at) ≡ true
-  going-on test = rw (by-its-bits fits) at (sym is ∙ not-false on test)
-
-  pub going-over : not on ≡ true → readsOn (t .got) (t .at) ≡ false
-  going-over test = rw (by-its-bits fits) at (sym is ∙ not-true on test)
 
 -- ---- Pieces
 
@@ -101,27 +95,34 @@ pieces-within (one-more {piece = piece} pieces) = rw length-append (omega (arith
 pub record ReadSoFar (turns : ℕ) (words : List ℕ) (t : Turn) : Type 0 where
   pub pieces : List (List ℕ)
   pub none-empty : NoneEmpty pieces
-  pub stands : Stands words (t .at) (afterReads (t .got) (flatten pieces))
+  pub leads : stands (t .at) words ≡ afterReads (t .got) (flatten pieces)
   pub counted : {n : ℕ} → t .got ≡ pos (suc n) → length pieces + turns ≡ 18446744073709551616
 
-module _ {turns : ℕ} {start : ScanState} {pieces : List (List ℕ)} (none-empty : NoneEmpty pieces) (leads : start ≡ scanned (flatten pieces))
+pub room-kept : {turns : ℕ} {words words₀ : List ℕ} {t : Turn} → ReadSoFar turns words t → words₀ ≡ replicate 2048 0 → length words ≡ length words₀
+room-kept {t = t} so-far zeros = ap (λ s. length (slice s)) (so-far .leads) ∙ go (t .got) (flatten (so-far .pieces)) ∙ sym (ap length zeros)
+  where
+    go : (got : ℤ) (input : List ℕ) → length (slice (afterReads got input)) ≡ length (replicate {A = ℕ} 2048 0)
+    go (pos n) input = scan-keeps-length (inputScanned []) input
+    go (negsuc k) input = scan-keeps-length (inputScanned []) input
+
+module _ {turns : ℕ} {start : ScanState} {pieces : List (List ℕ)} (none-empty : NoneEmpty pieces) (from : start ≡ inputScanned (flatten pieces))
     (counted : length pieces + suc turns ≡ 18446744073709551616) where
   pub read-more : {piece words : List ℕ} {t : Turn} → PieceRead start piece words t → ReadSoFar turns words t
-  read-more {piece} {words} {t} read = go (t .got) refl (read .moved) (read .stands)
+  read-more {piece} {words} {t} read = go (t .got) refl (read .moved) (read .leads)
     where
-      go : (got : ℤ) → t .got ≡ got → Moved (length piece) got → Stands words (t .at) (afterRead start got piece) → ReadSoFar turns words t
-      go (pos zero) is moved stands = record { pieces = pieces; none-empty = none-empty; stands = rw is (rw leads at stands); counted = λ some. absurd (let z : _≡_ {A = ℕ} 0 1 = cc in omega arith) }
-      go (negsuc k) is moved stands = record { pieces = pieces; none-empty = none-empty; stands = rw is stands; counted = λ some. absurd (let z : _≡_ {A = ℕ} 0 1 = cc in omega arith) }
-      go (pos (suc n)) is moved stands = record {
+      go : (got : ℤ) → t .got ≡ got → Moved (length piece) got → stands (t .at) words ≡ afterRead start got piece → ReadSoFar turns words t
+      go (pos zero) is moved leads = record { pieces = pieces; none-empty = none-empty; leads = rw is (leads ∙ from); counted = λ some. absurd (let z : _≡_ {A = ℕ} 0 1 = cc in omega arith) }
+      go (negsuc k) is moved leads = record { pieces = pieces; none-empty = none-empty; leads = rw is (leads ∙ ap givenUp from); counted = λ some. absurd (let z : _≡_ {A = ℕ} 0 1 = cc in omega arith) }
+      go (pos (suc n)) is moved leads = record {
         pieces = pieces ++ take (suc n) piece ∷ [];
         none-empty = none-empty-last (take (suc n) piece) none-empty (rw (length-take-le (suc n) piece moved) (omega arith));
-        stands = rw (is, flatten-last pieces (take (suc n) piece), scan-in-pieces (flatten pieces) (take (suc n) piece)) (rw leads at stands);
+        leads = rw (is, flatten-last pieces (take (suc n) piece)) (leads ∙ rw from (sym (scan-in-pieces (replicate 2048 0) (flatten pieces) (take (suc n) piece))));
         counted = λ some. rw length-append (omega arith);
       }
 
-pub read-first : {piece words : List ℕ} {t : Turn} → PieceRead (scanned []) piece words t → ReadSoFar 18446744073709551615 words t
+pub read-first : {words₀ piece words : List ℕ} {t : Turn} → words₀ ≡ replicate 2048 0 → PieceRead (stands (Between 0) words₀) piece words t → ReadSoFar 18446744073709551615 words t
 unfolding flatten
-read-first = read-more no-piece refl refl
+read-first zeros read = read-more no-piece (ap (stands (Between 0)) zeros) refl read
 
 -- Some bytes came.
 record GoesOn (t : Turn) : Type 0 where
@@ -136,32 +137,42 @@ goes-on t on = go (t .got) refl on
     go (pos (suc n)) is on = record { more = n; some = is }
     go (negsuc k) is on = absurd (let z : _≡_ {A = ℕ} 0 1 = cc in omega arith)
 
-pub read-next : {turns : ℕ} {piece words words′ : List ℕ} {t t′ : Turn} → ReadSoFar turns words t → 1 ≤ turns → readsOn (t .got) (t .at) ≡ true →
-    PieceRead (scanStateOf words (t .at)) piece words′ t′ → ReadSoFar (turns - 1) words′ t′
-read-next {t = t} so-far left on read =
+-- There is a further turn.
+pub turn-left : (t : Turn) (turns : ℕ) → hasTurn t turns ≡ true → (1 ≤ turns) × (readsOn (t .got) (t .at) ≡ true)
+turn-left t turns has = go (ltb turns 1) refl has
+  where
+    go : (last : Bool) → ltb turns 1 ≡ last → cond last false (readsOn (t .got) (t .at)) ≡ true → (1 ≤ turns) × (readsOn (t .got) (t .at) ≡ true)
+    go true e has = absurd (let z : _≡_ {A = ℕ} 0 1 = cc in omega arith)
+    go false e has = (ltb-false turns 1 e, has)
+
+pub read-next : {turns : ℕ} {piece words words′ : List ℕ} {t t′ : Turn} → ReadSoFar turns words t → hasTurn t turns ≡ true →
+    PieceRead (stands (t .at) words) piece words′ t′ → ReadSoFar (turns - 1) words′ t′
+read-next {turns} {t = t} so-far has read =
+    let (left, on) = turn-left t turns has in
     let some = goes-on t on .some in
-    read-more (so-far .none-empty) (rw some at (so-far .stands .is)) (omega (arith, so-far .counted some)) read
+    read-more (so-far .none-empty) (rw some at (so-far .leads)) (omega (arith, so-far .counted some)) read
 
 -- ---- The last read
 
 module _ {turns : ℕ} {words : List ℕ} {t : Turn} (so-far : ReadSoFar turns words t) where
   because : ReadingEnds (so-far .pieces) (t .got) → InputRead words t
-  because ends = record { reads = record { pieces = so-far .pieces; none-empty = so-far .none-empty; ends = ends }; stands = so-far .stands }
+  because ends = record { reads = record { pieces = so-far .pieces; none-empty = so-far .none-empty; ends = ends }; leads = so-far .leads }
 
-  pub reading-over : readsOn (t .got) (t .at) ≡ false → InputRead words t
-  reading-over over = because (go (t .got) (t .at) refl over (so-far .stands .is))
+  no-read-on : (got : ℤ) (s : Scanner) → t .got ≡ got → readsOn got s ≡ false → stands s words ≡ afterReads got (flatten (so-far .pieces)) → ReadingEnds (so-far .pieces) (t .got)
+  no-read-on (pos zero) s is over state = at-the-end is
+  no-read-on (pos (suc n)) Failed is over state = scan-failed (sym state)
+  no-read-on (pos (suc n)) (Between count) is over state = absurd (let z : _≡_ {A = ℕ} 0 1 = cc in omega arith)
+  no-read-on (pos (suc n)) (Inside count value) is over state = absurd (let z : _≡_ {A = ℕ} 0 1 = cc in omega arith)
+  no-read-on (negsuc k) s is over state = read-failed is
+
+  no-turn-left : (got : ℤ) → t .got ≡ got → turns ≡ 0 → ReadingEnds (so-far .pieces) (t .got)
+  no-turn-left (pos zero) is left = at-the-end is
+  no-turn-left (pos (suc n)) is left = turns-used-up (omega (arith, so-far .counted is))
+  no-turn-left (negsuc k) is left = read-failed is
+
+  pub read-over : hasTurn t turns ≡ false → InputRead words t
+  read-over over = because (go (ltb turns 1) refl over)
     where
-      go : (got : ℤ) (s : Scanner) → t .got ≡ got → readsOn got s ≡ false → scanStateOf words s ≡ afterReads got (flatten (so-far .pieces)) → ReadingEnds (so-far .pieces) (t .got)
-      go (pos zero) s is over state = at-the-end is
-      go (pos (suc n)) Failed is over state = scan-failed (sym state)
-      go (pos (suc n)) (Between count) is over state = absurd (let z : _≡_ {A = ℕ} 0 1 = cc in omega arith)
-      go (pos (suc n)) (Inside count value) is over state = absurd (let z : _≡_ {A = ℕ} 0 1 = cc in omega arith)
-      go (negsuc k) s is over state = read-failed is
-
-pub turns-over : {turns : ℕ} {words : List ℕ} {t : Turn} → ReadSoFar turns words t → turns ≡ 0 → InputRead words t
-turns-over {t = t} so-far none-left = because so-far (go (t .got) refl)
-  where
-    go : (got : ℤ) → t .got ≡ got → ReadingEnds (so-far .pieces) (t .got)
-    go (pos zero) is = at-the-end is
-    go (pos (suc n)) is = turns-used-up (omega (arith, so-far .counted is))
-    go (negsuc k) is = read-failed is
+      go : (last : Bool) → ltb turns 1 ≡ last → cond last false (readsOn (t .got) (t .at)) ≡ false → ReadingEnds (so-far .pieces) (t .got)
+      go true e over = no-turn-left (t .got) refl (omega (arith, ltb-true turns 1 e))
+      go false e over = no-read-on (t .got) (t .at) refl over (so-far .leads)

@@ -1,22 +1,22 @@
 -- What becomes of the bytes of one read, whatever it answers, and of all reads one after the other.
 use Prim.Native.Nat.{ℕ, zero, suc}
 use mathlib.Core.Path.{_≡_}
-use mathlib.Core.Bool.{Bool, true, false}
+use mathlib.Core.Bool.{Bool, true, false, cond}
 use mathlib.Core.List.{List, foldl, flatten}
+use lib.Dec.{ltb}
 use lib.ListN.{length, take}
 use lib.IntN.{ℤ, pos, negsuc}
 use Rattle.libc.specs.Io.{Moved}
-use Rattle.formula.specs.Scan.{ScanState, failed, scanByte}
-use Rattle.formula.specs.Scanning.{Stands}
-use Rattle.formula.specs.Reading.{afterReads, Reads}
-use Rattle.formula.specs.declared.scan.Scanner.{Scanner}
-use Rattle.formula.specs.declared.scan.Scanner.the-variants.{Failed, Between, Inside}
+use Rattle.decimal.specs.Scan.{ScanState, stands, scanByte}
+use Rattle.decimal.specs.declared.Scanner.{Scanner}
+use Rattle.decimal.specs.declared.Scanner.the-variants.{Failed, Between, Inside}
+use Rattle.formula.specs.Reading.{givenUp, afterReads, Reads}
 use Rattle.formula.specs.declared.read.Turn.{Turn}
 
--- Where a scan stands after a read: exactly the bytes that came are taken in. After a read that failed no input has words.
+-- Where a scan stands after a read: exactly the bytes that came are taken in.
 abbrev pub afterRead : ScanState → ℤ → List ℕ → ScanState
 afterRead start (pos n) piece = foldl scanByte start (take n piece)
-afterRead start (negsuc k) piece = failed
+afterRead start (negsuc k) piece = givenUp start
 
 abbrev pub hasNotFailed : Scanner → Bool
 hasNotFailed Failed = false
@@ -29,12 +29,16 @@ readsOn (pos zero) s = false
 readsOn (pos (suc n)) s = hasNotFailed s
 readsOn (negsuc k) s = false
 
+-- And a turn is left.
+abbrev pub hasTurn : Turn → ℕ → Bool
+hasTurn t turns = cond (ltb turns 1) false (readsOn (t .got) (t .at))
+
 -- The answer is within the piece, and the scan took in what came.
 pub record PieceRead (start : ScanState) (piece words : List ℕ) (t : Turn) : Type 0 where
   pub moved : Moved (length piece) (t .got)
-  pub stands : Stands words (t .at) (afterRead start (t .got) piece)
+  pub leads : stands (t .at) words ≡ afterRead start (t .got) piece
 
 -- The scan went through all that was read.
 pub record InputRead (words : List ℕ) (t : Turn) : Type 0 where
   pub reads : Reads (t .got)
-  pub stands : Stands words (t .at) (afterReads (t .got) (flatten (reads .pieces)))
+  pub leads : stands (t .at) words ≡ afterReads (t .got) (flatten (reads .pieces))

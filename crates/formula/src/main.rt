@@ -3,13 +3,12 @@
 mod lines;
 mod read;
 mod respond;
-mod scan;
 
 use libc::STDERR_FILENO;
 use libc::STDOUT_FILENO;
 ghost use Prim.Native.Nat.{_≤_};
 ghost use mathlib.Core.Path.{_≡_};
-ghost use lib.ListN.{length};
+ghost use lib.ListN.{length, replicate};
 ghost use Rattle.formula.specs.Responding.{AnswersInput};
 
 // What the last read of the input answered, and how many bytes of the text answer the input.
@@ -20,7 +19,7 @@ struct Reply {
 
 // Reads the input, and puts the text that answers it.
 fn answer(piece: &mut [u8], words: &mut [u32], text: &mut [u8]) -> Reply
-    requires { ⌜ (1 ≤ length (now piece)) × (length (now words) ≡ 2048) × (length (now text) ≡ 1024) ⌝ }
+    requires { ⌜ (1 ≤ length (now piece)) × (now words ≡ replicate 2048 0) × (length (now text) ≡ 1024) ⌝ }
     ensures { λ r. ⌜ AnswersInput (r .got) (now (text .exit)) (r .count) ⌝ }
 {
     let turn = read::read_input(piece, words);

@@ -1,13 +1,14 @@
 // The text that answers an input.
 use crate::lines;
-use crate::scan;
-use scan::Ended;
-use scan::Scanner;
+use decimal::Ended;
+use decimal::Scanner;
+ghost use Prim.Native.Nat.{_≤_};
 ghost use mathlib.Core.Path.{_≡_};
 ghost use lib.ListN.{length, replicate};
-ghost use Rattle.formula.specs.Scanning.{scanStateOf, ScanRoom};
-ghost use Rattle.formula.specs.TwoLinesIn.{TwoLinesIn};
+ghost use Rattle.decimal.specs.Scan.{stands, found};
+ghost use Rattle.decimal.specs.ScanLaws.{wordCount};
 ghost use Rattle.formula.specs.Responding.{Responds};
+ghost use Rattle.formula.specs.ProgramLaws.{TypeLineIn, RunLineIn, TwoLinesIn, LinesFor};
 
 fn work() -> [u32; 12304]
     ensures { λ r. ⌜ r ≡ replicate 12304 0 ⌝ }
@@ -21,29 +22,51 @@ fn store() -> [u32; 4096]
     [0; 4096]
 }
 
-// The lines of a table's inference and run, at the beginning of the text.
-fn two_lines(words: &[u32], text: &mut [u8]) -> usize
-    requires { ⌜ length (now text) ≡ 1024 ⌝ }
-    ensures { λ n. ⌜ TwoLinesIn (now (words .entry)) (now (text .exit)) n ⌝ }
+// The line of a table's inference, at the beginning of the text.
+fn type_line(words: &[u32], text: &mut [u8]) -> usize
+    ensures { λ next. ⌜ TypeLineIn (now (words .entry)) (now (text .entry)) (now (text .exit)) next ⌝ }
 {
     let mut work = work();
     let mut out = [0u32; 64];
     let inferred = inference::infer(words, &mut work, &mut out);
-    let next = lines::type_line(inferred, &out, text, 0);
+    lines::type_line(inferred, &out, text, 0)
+}
+
+// The line of a table's run.
+fn run_line(words: &[u32], text: &mut [u8], at: usize) -> usize
+    ensures { λ next. ⌜ RunLineIn (now (words .entry)) (now (text .entry)) at (now (text .exit)) next ⌝ }
+{
     let mut bindings = store();
     let mut frames = store();
     let ran = machine::run(words, 100000, &mut bindings, &mut frames);
-    lines::run_line(ran, text, next)
+    lines::run_line(ran, text, at)
+}
+
+// Both lines, which always fit.
+fn two_lines(words: &[u32], text: &mut [u8]) -> usize
+    requires { ⌜ length (now text) ≡ 1024 ⌝ }
+    ensures { λ n. ⌜ TwoLinesIn (now (words .entry)) (now (text .exit)) n ⌝ }
+{
+    let next = type_line(words, text);
+    run_line(words, text, next)
+}
+
+// The lines for what was found in an input: those of its table, or the one line `input`.
+fn lines_for(ended: Ended, words: &[u32], text: &mut [u8]) -> usize
+    requires { ⌜ (wordCount ended ≤ length (now words)) × (length (now text) ≡ 1024) ⌝ }
+    ensures { λ n. ⌜ LinesFor (found ended (now (words .entry))) (now (text .exit)) n ⌝ }
+{
+    match ended {
+        Ended::Words(count) => two_lines(&words[..count], text),
+        Ended::NoWords => decimal::bytes(b"input\n", text, 0),
+    }
 }
 
 // The lines for an input whose scan stands there.
 pub(crate) fn respond(s: Scanner, words: &mut [u32], text: &mut [u8]) -> usize
-    requires { ⌜ ScanRoom (now words) s × (length (now text) ≡ 1024) ⌝ }
-    ensures { λ n. ⌜ Responds (scanStateOf (now (words .entry)) s) (now (text .exit)) n ⌝ }
+    requires { ⌜ length (now text) ≡ 1024 ⌝ }
+    ensures { λ n. ⌜ Responds (stands s (now (words .entry))) (now (text .exit)) n ⌝ }
 {
-    let ended = scan::end(s, words);
-    let Ended::Words(count) = ended else {
-        return lines::bytes(b"input\n", text, 0);
-    };
-    two_lines(&words[..count], text)
+    let ended = decimal::end(s, words);
+    lines_for(ended, words, text)
 }

@@ -7,11 +7,11 @@ use mathlib.Core.List.{List, _++_}
 use native.Mathlib.Omega.{arith}
 use lib.Dec.{eqb, ltb}
 use lib.ListN.{length, take, drop, length-replicate}
-use lib.Seq.{take-at}
+use lib.Seq.{take-at, length-sets}
 use borrow.Author.Tests.{lt-ltb, eqb-true, eqb-false, ltb-true, ltb-false}
 use Rattle.lent.specs.Cleared.{zeros}
 use Rattle.lent.specs.Bytes.{fromBytes, overwrite}
-use Rattle.lent.specs.Overwriting.{overwrite-length, overwrite-fits}
+use Rattle.lent.specs.Writing.{overwrite-fits}
 use Rattle.lent.specs.ByteLaws.{length-fromBytes}
 use Rattle.acceptance.specs.Refusals.{checkOf}
 use Rattle.acceptance.specs.declared.Verdict.the-variants.{Refused as Turned}
@@ -72,7 +72,7 @@ module _ (table : List ℕ) where
       words-are = read ∙ overwrite-fits (fromBytes table) (zeros 2048) (rw (length-fromBytes table, length-replicate) (nodes-and-words .1))
 
       pub words-within : length table / 4 ≤ length words
-      words-within = rw (ap length read ∙ overwrite-length (fromBytes table) (zeros 2048) ∙ length-replicate {A = ℕ} 2048 0) (nodes-and-words .1)
+      words-within = rw (ap length read ∙ length-sets (zeros 2048) 0 (fromBytes table) ∙ length-replicate {A = ℕ} 2048 0) (nodes-and-words .1)
 
       first-words : take (length table / 4) words ≡ fromBytes table
       first-words = rw words-are (take-at (fromBytes table) (drop (length (fromBytes table)) (zeros 2048)) (length table / 4) (length-fromBytes table))

@@ -6,9 +6,9 @@ use native.Mathlib.Omega.{arith}
 use lib.ListN.{length, take, drop, length-replicate}
 use lib.Seq.{length-take-le}
 use Rattle.lent.specs.Cleared.{zeros}
-use Rattle.lent.specs.Smaller.{smaller-first, smaller-second}
+use Rattle.lent.specs.Smaller.{smaller-is-min}
 use Rattle.lent.specs.Bytes.{toBytes, overwrite}
-use Rattle.lent.specs.Overwriting.{overwrite-fits}
+use Rattle.lent.specs.Writing.{overwrite-fits}
 use Rattle.lent.specs.ByteLaws.{length-toBytes}
 use Rattle.inference.specs.Inference.{leaves, Infers}
 use Rattle.inference.specs.TypeWithin as Inference
@@ -26,10 +26,10 @@ take-zeros (suc n) (suc m) h = ap {B = List ℕ} (λ r. 0 ∷ r) (take-zeros n m
 
 module _ {room : ℕ} (out : List ℕ) (is : room ≡ outWords (length out)) where
   pub room-few : room ≤ 1024
-  room-few = rw is (smaller-second (length out / 4) 1024)
+  room-few = omega (arith, is, smaller-is-min (length out / 4) 1024)
 
   room-within : room ≤ length out / 4
-  room-within = rw is (smaller-first (length out / 4) 1024)
+  room-within = omega (arith, is, smaller-is-min (length out / 4) 1024)
 
   pub room-lent : length (take room (zeros 1024)) ≡ room
   room-lent = ap length (take-zeros room 1024 room-few) ∙ length-replicate room 0

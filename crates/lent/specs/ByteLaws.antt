@@ -1,12 +1,11 @@
 -- Each word of bytes, and each byte of words, by its index.
-use Prim.Native.Nat.{ℕ, zero, suc, _+_, _*_, _/_, _%_, _≤_, _<_}
+use Prim.Native.Nat.{ℕ, zero, suc, _+_, _*_, _/_, _%_, _≤_, _<_, min}
 use mathlib.Core.Path.{_≡_, refl, sym, _∙_}
 use mathlib.Core.List.{List, [], _∷_}
 use native.Mathlib.Omega.{arith}
 use lib.ListN.{length, getD, set}
-use Rattle.lent.specs.Smaller.{smaller}
-use Rattle.lent.specs.Bytes.{wordOf, fromBytes, bytesOf, toBytes}
-use Rattle.lent.specs.Overwriting.{Overwritten, overwritten-none, more-new, overwritten-more}
+use Rattle.lent.specs.Bytes.{wordOf, fromBytes, bytesOf, toBytes, overwrite}
+use Rattle.lent.specs.Writing.{Writing, overwrites, overwritten}
 
 -- ---- Bytes are read
 
@@ -44,19 +43,14 @@ word-is (a ∷ b ∷ []) i h = absurd (omega arith)
 word-is (a ∷ []) i h = absurd (omega arith)
 word-is [] i h = absurd (omega arith)
 
--- The words before i are read, and the rest is as it was.
-pub record Reading (bytes words₀ words : List ℕ) (n i : ℕ) : Type 0 where
-  pub so-far : Overwritten (fromBytes bytes) words₀ words n i
+module _ (bytes : List ℕ) {words₀ words : List ℕ} {i : ℕ} (read : Writing (fromBytes bytes) words₀ 0 words i i) where
+  pub word-read : {w : ℕ} → i < min (length bytes / 4) (length words₀) → w ≡ wordAt bytes (4 * i) → Writing (fromBytes bytes) words₀ 0 (set words i w) (i + 1) (i + 1)
+  word-read more is =
+      let inside : i < length (fromBytes bytes) = omega (arith, length-fromBytes bytes) in
+      overwrites read inside (omega arith) (is ∙ sym (word-is bytes i inside))
 
-pub reading-starts : {bytes words₀ : List ℕ} {n : ℕ} → n ≡ smaller (length bytes / 4) (length words₀) → Reading bytes words₀ words₀ n 0
-reading-starts {bytes} all = record { so-far = overwritten-none (rw (length-fromBytes bytes) all) }
-
-module _ {bytes words₀ words : List ℕ} {n i : ℕ} (read : Reading bytes words₀ words n i) (more : i < n) where
-  pub bytes-within : 4 * i + 4 ≤ length bytes
-  bytes-within = omega (arith, more-new (read .so-far) more, length-fromBytes bytes)
-
-  pub reading-goes-on : {w : ℕ} → w ≡ wordAt bytes (4 * i) → Reading bytes words₀ (set words i w) n (i + 1)
-  reading-goes-on is = record { so-far = overwritten-more (read .so-far) more (is ∙ sym (word-is bytes i (more-new (read .so-far) more))) }
+  pub words-read : min (length bytes / 4) (length words₀) ≤ i → words ≡ overwrite (fromBytes bytes) words₀
+  words-read all = overwritten read (omega (arith, length-fromBytes bytes))
 
 -- ---- Bytes are written
 
@@ -79,16 +73,12 @@ byte-is (w ∷ words) (suc (suc (suc (suc i)))) h =
     let again : suc (suc (suc (suc i))) % 4 ≡ i % 4 = omega arith in
     rw (next, again) (byte-is words i (omega arith))
 
--- The bytes before i are written, and the rest is as it was.
-pub record Writing (words bytes₀ bytes : List ℕ) (n i : ℕ) : Type 0 where
-  pub so-far : Overwritten (toBytes words) bytes₀ bytes n i
+module _ (words : List ℕ) {bytes₀ bytes : List ℕ} {i : ℕ} (written : Writing (toBytes words) bytes₀ 0 bytes i i) where
+  pub byte-written : {b : ℕ} → i < min (4 * length words) (length bytes₀) → b ≡ getD (bytesOf (getD words (i / 4) 0)) (i % 4) 0 →
+      Writing (toBytes words) bytes₀ 0 (set bytes i b) (i + 1) (i + 1)
+  byte-written more is =
+      let inside : i < length (toBytes words) = omega (arith, length-toBytes words) in
+      overwrites written inside (omega arith) (is ∙ sym (byte-is words i inside))
 
-pub writing-starts : {words bytes₀ : List ℕ} {n : ℕ} → n ≡ smaller (4 * length words) (length bytes₀) → Writing words bytes₀ bytes₀ n 0
-writing-starts {words} all = record { so-far = overwritten-none (rw (length-toBytes words) all) }
-
-module _ {words bytes₀ bytes : List ℕ} {n i : ℕ} (written : Writing words bytes₀ bytes n i) (more : i < n) where
-  pub words-within : i / 4 < length words
-  words-within = omega (arith, more-new (written .so-far) more, length-toBytes words)
-
-  pub writing-goes-on : {b : ℕ} → b ≡ getD (bytesOf (getD words (i / 4) 0)) (i % 4) 0 → Writing words bytes₀ (set bytes i b) n (i + 1)
-  writing-goes-on is = record { so-far = overwritten-more (written .so-far) more (is ∙ sym (byte-is words i (more-new (written .so-far) more))) }
+  pub bytes-written : min (4 * length words) (length bytes₀) ≤ i → bytes ≡ overwrite (toBytes words) bytes₀
+  bytes-written all = overwritten written (omega (arith, length-toBytes words))

@@ -1,6 +1,7 @@
 -- Words as bytes, and words put in the place of others.
 use Prim.Native.Nat.{ℕ, _+_, _*_, _/_, _%_}
 use mathlib.Core.List.{List, [], _∷_, _++_}
+use lib.Seq.{sets}
 
 -- A word by its four bytes, the least first.
 abbrev pub wordOf : ℕ → ℕ → ℕ → ℕ → ℕ
@@ -23,7 +24,5 @@ toBytes [] = []
 toBytes (w ∷ words) = bytesOf w ++ toBytes words
 
 -- The new stand in the place of the first of the old, as far as they fit.
-unfoldable pub overwrite : List ℕ → List ℕ → List ℕ
-overwrite [] old = old
-overwrite (x ∷ new) [] = []
-overwrite (x ∷ new) (y ∷ old) = x ∷ overwrite new old
+abbrev pub overwrite : List ℕ → List ℕ → List ℕ
+overwrite new old = sets old 0 new

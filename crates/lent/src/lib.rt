@@ -1,9 +1,9 @@
 // Slices of words and bytes that a caller lends.
-ghost use Prim.Native.Nat.{_<_};
+ghost use Prim.Native.Nat.{_+_, _≤_, _<_, min};
 ghost use mathlib.Core.Path.{_≡_};
 ghost use lib.ListN.{length, getD, replicate};
-ghost use Rattle.lent.specs.Smaller.{smaller as smallerOf};
 ghost use Rattle.lent.specs.Bytes.{wordOf, fromBytes, bytesOf, toBytes, overwrite};
+ghost use Rattle.lent.specs.ByteLaws.{wordAt};
 
 // All words of a slice become zero.
 pub fn clear(store: &mut [u32])
@@ -17,7 +17,7 @@ pub fn clear(store: &mut [u32])
 }
 
 fn smaller(a: usize, b: usize) -> usize
-    ensures { λ r. ⌜ r ≡ smallerOf a b ⌝ }
+    ensures { λ r. ⌜ r ≡ min a b ⌝ }
 {
     if a < b { a } else { b }
 }
@@ -28,6 +28,13 @@ fn word(a: u8, b: u8, c: u8, d: u8) -> u32
     (a as u32) + 256 * (b as u32) + 65536 * (c as u32) + 16777216 * (d as u32)
 }
 
+fn word_at(bytes: &[u8], at: usize) -> u32
+    requires { ⌜ at + 4 ≤ length (now bytes) ⌝ }
+    ensures { λ r. ⌜ r ≡ wordAt (now (bytes .entry)) at ⌝ }
+{
+    word(bytes[at], bytes[at + 1], bytes[at + 2], bytes[at + 3])
+}
+
 // The words of `bytes` stand in the place of the first of `words`, as far as they fit.
 pub fn read_words(bytes: &[u8], words: &mut [u32])
     ensures { λ r. ⌜ now (words .exit) ≡ overwrite (fromBytes (now (bytes .entry))) (now (words .entry)) ⌝ }
@@ -35,8 +42,7 @@ pub fn read_words(bytes: &[u8], words: &mut [u32])
     let n = smaller(bytes.len() / 4, words.len());
     let mut i = 0;
     while i < n {
-        let at = 4 * i;
-        words[i] = word(bytes[at], bytes[at + 1], bytes[at + 2], bytes[at + 3]);
+        words[i] = word_at(bytes, 4 * i);
         i += 1;
     }
 }

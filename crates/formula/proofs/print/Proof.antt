@@ -1,6 +1,7 @@
 -- `formula::print` is safe: what it writes is within the text.
-use mathlib.Core.Path.{sym}
+use borrow.Author.Needs.{needs}
 use lib.Seq.{length-take-le}
+use mathlib.Core.Path.{sym}
 use borrow.Author.Needs.{needs}
 use Rattle.formula.proofs.print.Statement.{statement}
 use Rattle.formula.proofs.print.Tie as tie
@@ -9,13 +10,13 @@ slice-aggregate-write-all : tie.Need-slice-aggregate-write-all
 slice-aggregate-write-all c = sym (length-take-le _ _ (c .before .before .pre .responds .inside))
 
 write-all-requires : tie.Need-write-all-requires
-write-all-requires c κs = tt
+write-all-requires c κs = search needs
 
 slice-aggregate-write-all-2 : tie.Need-slice-aggregate-write-all-2
 slice-aggregate-write-all-2 c = search needs
 
 write-all-requires-2 : tie.Need-write-all-requires-2
-write-all-requires-2 c κs = tt
+write-all-requires-2 c κs = search needs
 
 returns : tie.Need-returns
 returns c = search needs

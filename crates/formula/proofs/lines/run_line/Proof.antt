@@ -1,69 +1,45 @@
 -- `formula::lines::run_line` meets its contract.
-use mathlib.Core.Path.{refl}
+use Rattle.formula.specs.LineLaws.{line-goes-on}
+use Rattle.formula.specs.Lines.{runText}
+use Rattle.lent.specs.WrittenLaws.{within-itself, within-then}
 use borrow.Author.Needs.{needs}
-use Rattle.formula.specs.PrintingLaws.{ran-line}
+use borrow.Author.Needs.{needs}
 use Rattle.formula.proofs.lines.run_line.Statement.{statement}
 use Rattle.formula.proofs.lines.run_line.Tie as tie
 
+run-head-requires : tie.Need-run-head-requires
+run-head-requires c κs = search needs
+
+slice-aggregate-numbers : tie.Need-slice-aggregate-numbers
+slice-aggregate-numbers c = search needs
+
+numbers-requires : tie.Need-numbers-requires
+numbers-requires c κs = search needs
+
 slice-aggregate-bytes : tie.Need-slice-aggregate-bytes
-slice-aggregate-bytes c = refl
+slice-aggregate-bytes c = search needs
 
 bytes-requires : tie.Need-bytes-requires
 bytes-requires c κs = search needs
 
-code-requires : tie.Need-code-requires
-code-requires c κs = tt
-
-number-requires : tie.Need-number-requires
-number-requires c κs = search needs
-
-payload-requires : tie.Need-payload-requires
-payload-requires c κs = tt
-
-integer-requires : tie.Need-integer-requires
-integer-requires c κs = search needs
-
-number-requires-2 : tie.Need-number-requires-2
-number-requires-2 c κs = search needs
-
-number-requires-3 : tie.Need-number-requires-3
-number-requires-3 c κs = search needs
-
-byte-requires : tie.Need-byte-requires
-byte-requires c κs = search needs
+same-length : tie.Need-same-length
+same-length c = search needs
 
 returns : tie.Need-returns
 returns c =
-    let bound = c .before .before .before .before .before .before in
-    let stepped = bound .before .before .before .before in
-    let paid = stepped .before .before .before .before in
-    let coded = paid .before .before .before .before .before in
-    let named = coded .before .before .before .before .before in
-    let start = named .before .before .before .before in
-    ran-line
-    (start .args .ran)
-    (named .bytes .ensures)
-    (rw (coded .before .before .code .ensures) at (coded .number .ensures))
-    (rw (paid .before .before .payload .ensures) at (paid .integer .ensures))
-    (stepped .number2 .ensures)
-    (bound .number3 .ensures)
-    (c .before .before .byte .ensures)
-
-same-length : tie.Need-same-length
-same-length c = returns c .put .same-length
+    let ended = c .before .before in
+    let counted = ended .before .before .before .before .before in
+    let headed = counted .before .before .before .before .before in
+    within-then (line-goes-on runText _ _ (headed .run-head .ensures) (counted .numbers .ensures)) (within-itself (ended .bytes .ensures))
 
 pub run-line-spec : {M : Type 1} → statement M
 run-line-spec =
     tie.close
     (tie.spec
+    run-head-requires
+    slice-aggregate-numbers
+    numbers-requires
     slice-aggregate-bytes
     bytes-requires
-    code-requires
-    number-requires
-    payload-requires
-    integer-requires
-    number-requires-2
-    number-requires-3
-    byte-requires
     same-length
     returns)

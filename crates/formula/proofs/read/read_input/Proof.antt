@@ -1,8 +1,8 @@
 -- `formula::read::read_input` meets its contract. The loop's invariant: the scan went through all pieces so far.
+use Rattle.formula.specs.ReadingLaws.{ReadSoFar, room-kept, read-first, turn-left, read-next, read-over}
+use lib.ListN.{length}
 use mathlib.Core.Path.{_≡_, refl, sym, _∙_}
 use native.Mathlib.Omega.{arith}
-use lib.ListN.{length}
-use Rattle.formula.specs.ReadingLaws.{ReadSoFar, read-first, going-on, going-over, read-next, reading-over, turns-over}
 use Rattle.formula.proofs.read.read_input.Statement.{statement}
 use Rattle.formula.proofs.read.read_input.Tie as tie
 
@@ -13,67 +13,55 @@ abbrev μ-loop : tie.MeasureT-loop
 μ-loop piece₀ words₀ turn₀ turns₀ piece words turn turns = turns
 
 read-piece-requires : tie.Need-read-piece-requires Inv-loop μ-loop
-read-piece-requires c κs =
-    let pre = c .before .before .before .before .pre in
-    (record { room = pre .1; counted = omega arith }, pre .0)
+read-piece-requires c κs = c .before .before .before .before .pre .0
 
 loop-holds : tie.Need-loop-holds Inv-loop μ-loop
-loop-holds c = (refl, read-first (c .before .before .before .before .read-piece .ensures))
+loop-holds c =
+    let read = c .before .before .before .before in
+    let start = read .before .before .before .before .before in
+    (refl, read-first (start .pre .1) (read .read-piece .ensures))
 
-reads-on-requires : tie.Need-reads-on-requires Inv-loop μ-loop
-reads-on-requires c κs = tt
+has-turn-requires : tie.Need-has-turn-requires Inv-loop μ-loop
+has-turn-requires c κs = tt
 
 read-piece-requires-2 : tie.Need-read-piece-requires-2 Inv-loop μ-loop
-read-piece-requires-2 c κs =
-    let turn = c .before .before .before .before .before .before in
-    let entered = turn .before .before .before .before .before in
-    let start = entered .before .before .before .before .before in
-    (turn .loop .inv .1 .stands .fits, omega (arith, turn .loop .inv .0, entered .read-piece .kept .1 .0, start .pre .0))
+read-piece-requires-2 c κs = omega arith
 
 sub-turns : tie.Need-sub-turns Inv-loop μ-loop
-sub-turns c = let asked = c .before .before .before .before .before in omega (arith, asked .before .before .before .before .before .loop-test .taken)
+sub-turns c =
+    let read = c .before .before .before .before in
+    let tested = read .before .before .before in
+    let turn = tested .before .before .loop in
+    omega (arith, turn-left (turn .turn) (turn .turns) (sym (tested .before .has-turn .ensures) ∙ tested .if1 .taken))
 
 loop-less : tie.Need-loop-less Inv-loop μ-loop
-loop-less c = let asked = c .before .before .before .before .before in omega (arith, asked .before .before .before .before .before .loop-test .taken)
+loop-less c =
+    let read = c .before .before .before .before in
+    let tested = read .before .before .before in
+    let turn = tested .before .before .loop in
+    omega (arith, turn-left (turn .turn) (turn .turns) (sym (tested .before .has-turn .ensures) ∙ tested .if1 .taken))
 
 loop-again : tie.Need-loop-again Inv-loop μ-loop
 loop-again c =
     let read = c .before .before .before .before in
-    let on = read .before .before .before in
-    let tested = on .before .before .before in
-    let turn = tested .before .loop in
-    let more = going-on (turn .turn) (on .before .before .struct-told .given .0 .1) (on .before .reads-on .ensures) (on .if1 .left) in
-    (read .read-piece2 .kept .1 .0 ∙ turn .inv .0, read-next (turn .inv .1) (tested .loop-test .taken) more (read .read-piece2 .ensures))
+    let tested = read .before .before .before in
+    let turn = tested .before .before .loop .inv in
+    (read .read-piece2 .kept .1 .0 ∙ turn .0, read-next (turn .1) (sym (tested .before .has-turn .ensures) ∙ tested .if1 .taken) (read .read-piece2 .ensures))
 
 same-length : tie.Need-same-length Inv-loop μ-loop
 same-length c =
-    let turn = c .before .before .before .before in
-    let entered = turn .before .before .before .before .before in
-    turn .loop .inv .0 ∙ entered .read-piece .kept .1 .0
+    let entered = c .before .before .before .before .before .before in
+    c .before .before .loop .inv .0 ∙ entered .before .read-piece .kept .1 .0
 
 same-length-2 : tie.Need-same-length-2 Inv-loop μ-loop
 same-length-2 c =
-    let turn = c .before .before .before .before in
+    let turn = c .before .before in
     let entered = turn .before .before .before .before .before in
-    turn .loop .inv .1 .stands .fits .room ∙ sym (entered .before .before .before .before .before .pre .1)
+    let start = entered .before .before .before .before .before in
+    room-kept (turn .loop .inv .1) (start .pre .1)
 
 returns : tie.Need-returns Inv-loop μ-loop
-returns c =
-    let turn = c .before .before .before .before .loop in
-    reading-over (turn .inv .1) (going-over (turn .turn) (c .before .before .struct-told .given .0 .1) (c .before .reads-on .ensures) (c .if1 .taken))
-
-same-length-3 : tie.Need-same-length-3 Inv-loop μ-loop
-same-length-3 c =
-    let entered = c .before .before .before .before .before .before in
-    c .before .loop .inv .0 ∙ entered .read-piece .kept .1 .0
-
-same-length-4 : tie.Need-same-length-4 Inv-loop μ-loop
-same-length-4 c =
-    let entered = c .before .before .before .before .before .before in
-    c .before .loop .inv .1 .stands .fits .room ∙ sym (entered .before .before .before .before .before .pre .1)
-
-returns-2 : tie.Need-returns-2 Inv-loop μ-loop
-returns-2 c = turns-over (c .before .loop .inv .1) (omega (arith, c .loop-test .left))
+returns c = read-over (c .before .before .loop .inv .1) (sym (c .before .has-turn .ensures) ∙ c .if1 .left)
 
 pub read-input-spec : {M : Type 1} → statement M
 read-input-spec =
@@ -83,14 +71,11 @@ read-input-spec =
     μ-loop
     read-piece-requires
     loop-holds
-    reads-on-requires
-    same-length
-    same-length-2
-    returns
+    has-turn-requires
     read-piece-requires-2
     sub-turns
     loop-less
     loop-again
-    same-length-3
-    same-length-4
-    returns-2)
+    same-length
+    same-length-2
+    returns)

@@ -1,6 +1,7 @@
 -- `formula::read::read_piece` meets its contract.
-use borrow.Author.Needs.{needs}
 use Rattle.formula.specs.ReadingLaws.{by-its-bits}
+use borrow.Author.Needs.{needs}
+use borrow.Author.Needs.{needs}
 use Rattle.formula.proofs.read.read_piece.Statement.{statement}
 use Rattle.formula.proofs.read.read_piece.Tie as tie
 
@@ -21,7 +22,7 @@ returns c =
     let taken = c .before .before in
     let came = taken .before .before .before .before .before in
     let is = by-its-bits {z = came .read .result} (came .read .ok) in
-    rw is (record { moved = rw (came .read .kept .1 .0) (came .read .ensures); stands = rw is at (taken .take-in .ensures) })
+    rw is (record { moved = rw (came .read .kept .1 .0) (came .read .ensures); leads = rw is at (taken .take-in .ensures) })
 
 pub read-piece-spec : {M : Type 1} → statement M
 read-piece-spec =

@@ -1,0 +1,34 @@
+-- `decimal::scan::digit` meets its contract.
+use borrow.Author.Needs.{needs}
+use borrow.Author.Tests.{lt-ltb, le-ltb, le-leb, lt-leb}
+use borrow.Author.Needs.{needs}
+use Rattle.decimal.proofs.scan.digit.Statement.{statement}
+use Rattle.decimal.proofs.scan.digit.Tie as tie
+
+mul-next : tie.Need-mul-next
+mul-next c = search needs
+
+cast-next : tie.Need-cast-next
+cast-next c = search needs
+
+add-next : tie.Need-add-next
+add-next c = search needs
+
+cast-t13 : tie.Need-cast-t13
+cast-t13 c = search needs
+
+returns : tie.Need-returns
+returns c = simp (le-leb 48 _ (c .before .before .if1 .left), lt-ltb _ 58 (c .before .if2 .taken), lt-ltb _ _ (c .if3 .taken))
+
+returns-2 : tie.Need-returns-2
+returns-2 c = simp (le-leb 48 _ (c .before .before .if1 .left), lt-ltb _ 58 (c .before .if2 .taken), le-ltb _ _ (c .if3 .left))
+
+returns-3 : tie.Need-returns-3
+returns-3 c = simp (lt-leb 48 _ (c .if1 .taken))
+
+returns-4 : tie.Need-returns-4
+returns-4 c = simp (le-leb 48 _ (c .before .if1 .left), le-ltb _ 58 (c .if2 .left))
+
+pub digit-spec : {M : Type 1} → statement M
+digit-spec =
+    tie.close (tie.spec mul-next cast-next add-next cast-t13 returns returns-2 returns-3 returns-4)
