@@ -17,7 +17,9 @@ same-length : tie.Need-same-length
 same-length c = search needs
 
 returns : tie.Need-returns
-returns c = none-written (c .before .before .before .before .before .args .out .now) (c .if1 .taken) (c .before .measure .ensures)
+returns c =
+    let start = c .before .before .before .before .before in
+    none-written (start .args .out .now) (c .if1 .taken) (c .before .measure .ensures)
 
 sub-count : tie.Need-sub-count
 sub-count c = search needs
@@ -26,11 +28,16 @@ slice-relend-prefix-write : tie.Need-slice-relend-prefix-write
 slice-relend-prefix-write c = search needs
 
 slice-aggregate-write : tie.Need-slice-aggregate-write
-slice-aggregate-write c = sym (length-take-le _ (c .before .before .before .before .before .before .before .args .out .now) (omega arith))
+slice-aggregate-write c =
+    let test = c .before .before in
+    let start = test .before .before .before .before .before in
+    sym (length-take-le _ (start .args .out .now) (omega arith))
 
 write-requires : tie.Need-write-requires
 write-requires c κs =
-    let pre = c .before .before .before .before .before .before .before .pre in
+    let test = c .before .before in
+    let start = test .before .before .before .before .before in
+    let pre = start .pre in
     let room = slice-aggregate-write c in
     (ready-at-first (pre .0), pre .1, omega arith)
 

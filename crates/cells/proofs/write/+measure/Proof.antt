@@ -57,7 +57,8 @@ measure-returns-2 t c =
     let rooted = c .before .before .before in
     let loop = rooted .before .before .loop in
     let leaf = root-is-leaf (rooted .root .ensures) (c .before .before .get .ensures) (loop .inv .0) (c .if2 .taken) in
-    loop .inv .2 _ (measured-leaf (rooted .root .ensures) (loop .room) (rooted .before .before .before .before .pre .1 .0) leaf)
+    let pre = rooted .before .before .before .before .pre in
+    loop .inv .2 _ (measured-leaf (rooted .root .ensures) (loop .room) (pre .1 .0) leaf)
 
 measure-sub-measure : (t : ℕ) → measure-lts.Need-sub-measure (claims t) (measure-at t) measure.Post Inv-loop μ-loop
 measure-sub-measure t c = omega arith
@@ -80,7 +81,9 @@ measure-loop-again t c =
     let loop = rooted .before .before .loop in
     let pre = rooted .before .before .before .before .pre .1 in
     let inside = parts-inside (pre .0) (rooted .root .result) (found .get .ensures) (test .if2 .left) in
-    (inside .1, omega (arith, measure-loop-less t c, loop .inv .1), λ left m. loop .inv .2 left (measured-arrow (rooted .root .ensures) (found .get .ensures) (test .if2 .left) (c .measure .ensures) m))
+    let is-arrow = test .if2 .left in
+    let inv = loop .inv in
+    (inside .1, omega (arith, measure-loop-less t c, inv .1), λ left m. inv .2 left (measured-arrow (rooted .root .ensures) (found .get .ensures) is-arrow (c .measure .ensures) m))
 
 pub +measure-spec : {M : Type 1} → statement M
 +measure-spec = close μ-measure λ t. measure-lts.spec (claims t)

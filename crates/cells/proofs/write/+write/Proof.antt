@@ -75,7 +75,9 @@ write-root-requires t c κs =
     (inv .0 .sound, inv .1)
 
 write-get-requires : (t : ℕ) → write-lts.Need-get-requires (claims t) (write-at t) write.Post Inv-loop μ-loop
-write-get-requires t c κs = omega (arith, c .before .root .ensures .below, c .before .before .before .before .loop .inv .1)
+write-get-requires t c κs =
+    let rooted = c .before in
+    omega (arith, rooted .root .ensures .below, rooted .before .before .before .loop .inv .1)
 
 write-sub-at : (t : ℕ) → write-lts.Need-sub-at (claims t) (write-at t) write.Post Inv-loop μ-loop
 write-sub-at t c =
@@ -84,16 +86,18 @@ write-sub-at t c =
 
 write-leaf-requires : (t : ℕ) → write-lts.Need-leaf-requires (claims t) (write-at t) write.Post Inv-loop μ-loop
 write-leaf-requires t c κs =
-    let rooted = c .before .before .before .before .before in
+    let found = c .before .before .before in
+    let rooted = found .before .before in
     let inv = rooted .before .before .before .loop .inv in
-    (inv .0, root-is-leaf (rooted .root .ensures) (c .before .before .before .get .ensures) (inv .1) (c .before .if2 .taken))
+    (inv .0, root-is-leaf (rooted .root .ensures) (found .get .ensures) (inv .1) (c .before .if2 .taken))
 
 write-mul-out : (t : ℕ) → write-lts.Need-mul-out (claims t) (write-at t) write.Post Inv-loop μ-loop
 write-mul-out t c = search needs
 
 write-slice-write-out : (t : ℕ) → write-lts.Need-slice-write-out (claims t) (write-at t) write.Post Inv-loop μ-loop
 write-slice-write-out t c =
-    let loop = c .before .before .before .before .before .before .before .before .before .before .before in
+    let found = c .before .before .before .before .before .before in
+    let loop = found .before .before .before .before .before in
     omega (arith, loop .loop .inv .2, loop .loop .inv .3, loop .before .before .before .pre .1 .2)
 
 write-sub-t22 : (t : ℕ) → write-lts.Need-sub-t22 (claims t) (write-at t) write.Post Inv-loop μ-loop
@@ -101,10 +105,11 @@ write-sub-t22 t c = omega arith
 
 write-returns-2 : (t : ℕ) → write-lts.Need-returns-2 (claims t) (write-at t) write.Post Inv-loop μ-loop
 write-returns-2 t c =
-    let rooted = c .before .before .before .before .before .before .before .before in
+    let leaf = c .before .before in
+    let rooted = leaf .before .before .before .before .before .before in
     let some = rooted .before .before in
     let loop = some .before .loop in
-    loop .inv .4 _ _ _ (wrote-leaf (some .if1 .left) (rooted .root .ensures) (loop .out) (c .before .before .leaf .ensures))
+    loop .inv .4 _ _ _ (wrote-leaf (some .if1 .left) (rooted .root .ensures) (loop .out) (leaf .leaf .ensures))
 
 write-same-length-3 : (t : ℕ) → write-lts.Need-same-length-3 (claims t) (write-at t) write.Post Inv-loop μ-loop
 write-same-length-3 t c = write-returns-2 t c .kept .same-length
@@ -117,7 +122,8 @@ write-mul-out-2 t c = search needs
 
 write-slice-write-out-2 : (t : ℕ) → write-lts.Need-slice-write-out-2 (claims t) (write-at t) write.Post Inv-loop μ-loop
 write-slice-write-out-2 t c =
-    let loop = c .before .before .before .before .before .before .before in
+    let found = c .before .before .before in
+    let loop = found .before .before .before .before in
     omega (arith, loop .loop .inv .2, loop .loop .inv .3, loop .before .before .before .pre .1 .2)
 
 write-sub-write : (t : ℕ) → write-lts.Need-sub-write (claims t) (write-at t) write.Post Inv-loop μ-loop
@@ -137,7 +143,8 @@ write-write-requires t c κs =
 write-loop-less : (t : ℕ) → write-lts.Need-loop-less (claims t) (write-at t) write.Post Inv-loop μ-loop
 write-loop-less t c =
     let called = c .before .before .before .before in
-    let some = called .before .before .before .before .before .before .before .before .before in
+    let rooted = called .before .before .before .before .before .before in
+    let some = rooted .before .before .before in
     omega (arith, called .write .ensures .no-more, some .if1 .left)
 
 write-loop-again : (t : ℕ) → write-lts.Need-loop-again (claims t) (write-at t) write.Post Inv-loop μ-loop
@@ -156,7 +163,8 @@ write-loop-again t c =
       rw (wrote .kept .same-length) (inside .1),
       omega (arith, write-loop-less t c, inv .2),
       wrote .same-length ∙ length-set (loop .out) _ _ ∙ inv .3,
-      λ cells′ out′ rest next. inv .4 cells′ out′ rest (wrote-arrow (some .if1 .left) (rooted .root .ensures) (loop .out) (omega (arith, inv .2, inv .3, pre .2)) (found .get .ensures) (test .if2 .left) wrote next),
+      λ cells′ out′ rest next. inv .4 cells′ out′ rest
+          (wrote-arrow (some .if1 .left) (rooted .root .ensures) (loop .out) (omega (arith, inv .2, inv .3, pre .2)) (found .get .ensures) (test .if2 .left) wrote next),
     )
 
 pub +write-spec : {M : Type 1} → statement M

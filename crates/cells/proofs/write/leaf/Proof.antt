@@ -9,8 +9,9 @@ get-requires c κs = search needs
 
 variable-requires : tie.Need-variable-requires
 variable-requires c κs =
-    let pre = c .before .before .before .before .before .before .pre in
-    (pre .0, pre .1 .inside, rw (c .before .before .before .get .ensures) at (c .before .if1 .taken))
+    let got = c .before .before .before in
+    let pre = got .before .before .before .pre in
+    (pre .0, pre .1 .inside, rw (got .get .ensures) at (c .before .if1 .taken))
 
 same-length : tie.Need-same-length
 same-length c = search needs
@@ -26,8 +27,9 @@ same-length-2 c = search needs
 
 returns-2 : tie.Need-returns-2
 returns-2 c =
-    let pre = c .before .before .before .before .before .before .pre in
-    let at-r = c .before .before .before .get .ensures in
+    let got = c .before .before .before in
+    let pre = got .before .before .before .pre in
+    let at-r = got .get .ensures in
     rw at-r (base-spelled (pre .0) (pre .1) (rw at-r at (c .before .if1 .left)))
 
 pub leaf-spec : {M : Type 1} → statement M

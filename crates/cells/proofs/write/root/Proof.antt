@@ -28,17 +28,18 @@ returns c =
 
 loop-less : tie.Need-loop-less Inv-loop μ-loop
 loop-less c =
-    let at-r = c .before .before .get .ensures in
-    let pre = c .before .before .before .before .before .pre in
-    rw at-r (pre .0 .allowed (c .before .before .before .loop .r) .link-down (rw at-r at (c .if1 .left)))
+    let got = c .before .before in
+    let at-r = got .get .ensures in
+    let loop = got .before in
+    rw at-r (loop .before .before .pre .0 .allowed (loop .loop .r) .link-down (rw at-r at (c .if1 .left)))
 
 loop-again : tie.Need-loop-again Inv-loop μ-loop
 loop-again c =
-    let a = c .before .before .before .before .before .args in
-    let r = c .before .before .before .loop .r in
-    let (below, same) = c .before .before .before .loop .inv in
+    let got = c .before .before in
+    let loop = got .before in
+    let (below, same) = loop .loop .inv in
     let falls = loop-less c in
-    (omega arith, λ τ d. ev-at (says-link (a .cells .now) r (c .before .before .get .ensures) (c .if1 .left)) (same τ d))
+    (omega arith, λ τ d. ev-at (says-link (loop .before .before .args .cells .now) (loop .loop .r) (got .get .ensures) (c .if1 .left)) (same τ d))
 
 pub root-spec : {M : Type 1} → statement M
 root-spec =
