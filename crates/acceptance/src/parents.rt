@@ -6,6 +6,7 @@ ghost use Prim.Native.Nat.{_+_, _*_, _≤_, _<_};
 ghost use mathlib.Core.Path.{_≡_};
 ghost use mathlib.Core.Bool.{true};
 ghost use mathlib.Core.Option.{none};
+ghost use lib.Dec.{eqb};
 ghost use lib.ListN.{length};
 ghost use Rattle.table.specs.Node.{nodeAt};
 ghost use Rattle.language.specs.Once.{once};
@@ -19,19 +20,23 @@ fn one_if(t: bool) -> u32
     if t { 1 } else { 0 }
 }
 
+// How many of two children are k.
+fn times_of_two(a: u32, b: u32, k: u32) -> u32
+    ensures { λ r. ⌜ (r ≡ once (eqb a k) + once (eqb b k)) × (r ≤ 2) ⌝ }
+{
+    one_if(a == k) + one_if(b == k)
+}
+
 // In how many fields of a node k stands as a child.
 fn times_in(w: NodeWords, k: u32) -> u32
     ensures { λ r. ⌜ (r ≡ timesIn (nodeIn w) k) × (r ≤ 3) ⌝ }
 {
     let kind = w.kind;
-    let a = w.a;
-    let b = w.b;
-    let c = w.c;
     match kind {
-        5 => one_if(a == k) + one_if(b == k),
-        6 => one_if(a == k) + one_if(b == k) + one_if(c == k),
-        7 | 9 => one_if(b == k),
-        8 => one_if(b == k) + one_if(c == k),
+        5 => times_of_two(w.a, w.b, k),
+        6 => times_of_two(w.a, w.b, k) + one_if(w.c == k),
+        7 | 9 => one_if(w.b == k),
+        8 => times_of_two(w.b, w.c, k),
         _ => 0,
     }
 }
