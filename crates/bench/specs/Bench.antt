@@ -5,7 +5,7 @@ use mathlib.Core.Path.{_≡_}
 use mathlib.Core.List.{List, [], _∷_}
 use lib.ListN.{length, take}
 use Rattle.table.specs.Refusals.{countOf}
-use Rattle.machine.specs.Answers as Run
+use Rattle.answers.specs.Answers as Run
 use Rattle.machine.specs.Runs.{capacityOf, RunIs}
 use Rattle.machine.specs.declared.Ran.{Ran}
 use Rattle.inference.specs.Inference as Inference

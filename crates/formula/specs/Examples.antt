@@ -5,7 +5,7 @@ use mathlib.Core.Option.{none, some}
 use mir.Syntax.{w32}
 use mir.Val.{toZ}
 use Rattle.inference.specs.declared.Inferred.the-variants.{Typed, Refused as NoType}
-use Rattle.machine.specs.declared.Answer.the-variants.{Integer}
+use Rattle.answers.specs.declared.Answer.the-variants.{Integer}
 use Rattle.formula.specs.Input.{runs, withoutEmpty, allDigits, numbersOf, wordsIn}
 use Rattle.formula.specs.Decimal.{digitsWithin, decimal, signedDecimal}
 use Rattle.formula.specs.Lines.{spaced, typeLine, runLine}

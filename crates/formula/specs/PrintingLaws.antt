@@ -11,7 +11,7 @@ use mir.Syntax.{w32}
 use mir.Val.{toZ}
 use borrow.Author.Tests.{lt-ltb, le-ltb}
 use Rattle.inference.specs.declared.Inferred.the-variants.{Typed, Refused as NoType}
-use Rattle.machine.specs.Answers.{codeOf as runCode}
+use Rattle.answers.specs.Answers.{codeOf as runCode}
 use Rattle.machine.specs.declared.Ran.{Ran}
 use Rattle.formula.specs.Input.{wordLimit}
 use Rattle.formula.specs.Decimal.{digitByte, decimal, signedDecimal}
