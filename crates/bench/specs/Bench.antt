@@ -1,11 +1,11 @@
--- A row of the bench: a call on a formula table, and the numbers that the rules state of its answer. A row holds if every answer that
+-- A row of the bench: a call on a formula table, and the numbers that the scope states of its answer. A row holds if every answer that
 -- the call's contract allows begins with these numbers, whatever words the lent slices hold.
 use Prim.Native.Nat.{ℕ, _≤_}
 use mathlib.Core.Path.{_≡_}
 use mathlib.Core.List.{List, [], _∷_}
 use lib.ListN.{length, take}
 use Rattle.table.specs.Node.{countOf}
-use Rattle.machine.specs.Answers as Run
+use Rattle.answers.specs.Answers as Run
 use Rattle.machine.specs.Runs.{capacityOf, RunIs}
 use Rattle.machine.specs.declared.Ran.{Ran}
 use Rattle.inference.specs.Inference as Inference

@@ -8,7 +8,7 @@ use Rattle.table.specs.Node.{nodeOf, nodeAt, countOf}
 use Rattle.acceptance.specs.Refusals.{fitsRule, timesBelow, firstFrom, checkOf}
 use Rattle.semantics.specs.Limits.{runFrom}
 use Rattle.semantics.specs.Machine.{newestBinding}
-use Rattle.semantics.specs.Answer.{runTable}
+use Rattle.semantics.specs.Answer.{runNodes}
 use Rattle.machine.specs.Runs.{ranOf, runAfter}
 use Rattle.equations.specs.Inferred.{inferred}
 use Rattle.inference.specs.Inference.{workFor}
@@ -22,5 +22,5 @@ lineOf words (run fuel bindings frames) = runNumbers (runAfter (checkOf words) (
 
 -- To unfold it is to unfold all that it computes with.
 unfoldable pub computed : Row → List ℕ
-unfolding textbook checkOf fitsRule timesBelow firstFrom inferred nodeAt nodeOf wordsOf spell appearing placeIn isAmong runTable runFrom newestBinding meaning
+unfolding textbook checkOf fitsRule timesBelow firstFrom inferred nodeAt nodeOf wordsOf spell appearing placeIn isAmong runNodes runFrom newestBinding meaning
 computed row = asFar (row .stated) (lineOf (row .table) (row .call))

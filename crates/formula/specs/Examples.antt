@@ -3,7 +3,7 @@ use mathlib.Core.Path.{_≡_, refl}
 use mathlib.Core.List.{[], _∷_}
 use Rattle.decimal.specs.Decimal.{digitsWithin, decimal, spaced}
 use Rattle.inference.specs.declared.Inferred.the-variants.{Typed, Refused as NoType}
-use Rattle.machine.specs.declared.Answer.the-variants.{Integer}
+use Rattle.answers.specs.declared.Answer.the-variants.{Integer}
 use Rattle.formula.specs.Lines.{typeLine, runLine}
 
 -- `type 0 1 3` and `run 10 6 14 1`

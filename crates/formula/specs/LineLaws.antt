@@ -10,8 +10,8 @@ use Rattle.decimal.specs.Decimal.{decimal, signedDecimal, spaced}
 use Rattle.decimal.specs.TextLaws.{spaced-append, spaced-one}
 use Rattle.inference.specs.declared.Inferred.{Inferred}
 use Rattle.inference.specs.declared.Inferred.the-variants.{Typed, Refused as NoType}
-use Rattle.machine.specs.Answers.{codeOf}
-use Rattle.machine.specs.declared.Answer.{Answer}
+use Rattle.answers.specs.Answers.{codeOf}
+use Rattle.answers.specs.declared.Answer.{Answer}
 use Rattle.formula.specs.Lines.{typeText, typeNumbers, runText, printedPayload}
 
 -- The type's words are the first of 64 at most.

@@ -8,8 +8,8 @@ use mir.Val.{toZ}
 use Rattle.inference.specs.Inference.{codeOf as typeCode, placeOf}
 use Rattle.inference.specs.declared.Inferred.{Inferred}
 use Rattle.inference.specs.declared.Inferred.the-variants.{Typed, Refused as NoType}
-use Rattle.machine.specs.Answers.{codeOf as runCode, payloadOf}
-use Rattle.machine.specs.declared.Answer.{Answer}
+use Rattle.answers.specs.Answers.{codeOf as runCode, payloadOf}
+use Rattle.answers.specs.declared.Answer.{Answer}
 use Rattle.machine.specs.declared.Ran.{Ran}
 use Rattle.decimal.specs.Decimal.{decimal, signedDecimal, spaced}
 

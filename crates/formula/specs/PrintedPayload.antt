@@ -5,7 +5,7 @@ use mathlib.Core.Logic.{_≢_}
 use mathlib.Core.List.{List}
 use native.Mathlib.Omega.{arith}
 use lib.IntN.{pos}
-use Rattle.machine.specs.Answers.{codeOf, payloadOf}
+use Rattle.answers.specs.Answers.{codeOf, payloadOf}
 use Rattle.machine.specs.Runs.{RunIs}
 use Rattle.machine.specs.AnswerNumbers.{payload-below-512}
 use Rattle.machine.specs.declared.Ran.{Ran}

@@ -11,7 +11,7 @@ use Rattle.lent.specs.Bytes.{fromBytes, toBytes}
 use Rattle.inference.specs.Inference.{After, Infers, codeOf as inferredCode, placeOf}
 use Rattle.inference.specs.declared.Inferred.{Inferred}
 use Rattle.inference.specs.declared.Inferred.the-variants.{Typed, Refused}
-use Rattle.machine.specs.Answers.{codeOf, payloadOf}
+use Rattle.answers.specs.Answers.{codeOf, payloadOf}
 use Rattle.machine.specs.Runs.{RunIs}
 use Rattle.machine.specs.declared.Ran.{Ran}
 

@@ -4,7 +4,7 @@ use mathlib.Core.Path.{_≡_, sym, _∙_, ap}
 use mathlib.Core.List.{List}
 use Rattle.inference.specs.Inference.{codeOf as inferredCode, placeOf}
 use Rattle.inference.specs.InferenceOnce.{infers-once}
-use Rattle.machine.specs.Answers.{codeOf, payloadOf}
+use Rattle.answers.specs.Answers.{codeOf, payloadOf}
 use Rattle.machine.specs.RunCall.{run-determined}
 use Rattle.host.specs.Entries.{packed, Entry, part-of-a-node, whole-nodes, outAfter, InfersTo, InferEntry, RunsTo, RunEntry}
 

@@ -18,7 +18,7 @@ use Rattle.semantics.specs.Limits.{AtLeast}
 use Rattle.semantics.specs.Answer.{DefinedAnswer, exception-answer}
 use Rattle.semantics.specs.AnswerCodes.{answers-10-to-19}
 use Rattle.semantics.specs.Reached.{answerFor}
-use Rattle.machine.specs.Answers.{codeOf}
+use Rattle.answers.specs.Answers.{codeOf}
 use Rattle.machine.specs.Runs.{capacityOf}
 use Rattle.machine.specs.CodeTells.{Tells, RanOut}
 use Rattle.machine.specs.CallReaches.{lentRoom, CallAnswers, CallReaches}

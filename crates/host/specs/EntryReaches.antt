@@ -5,7 +5,7 @@ use mathlib.Core.Logic.{_⊎_}
 use mathlib.Core.List.{List}
 use Rattle.lent.specs.Bytes.{fromBytes}
 use Rattle.semantics.specs.Limits.{Room, AtLeast}
-use Rattle.semantics.specs.Answer.{DefinedAnswer, code, payload}
+use Rattle.semantics.specs.Answer.{DefinedAnswer, code, payload, runTable}
 use Rattle.semantics.specs.Reached.{Reached}
 use Rattle.machine.specs.CodeTells.{RanOut}
 use Rattle.host.specs.Entries.{packed, RunEntry}
@@ -18,7 +18,7 @@ entryRoom fuel = record { fuel = fuel; bindings = 512; frames = 512 }
 -- fuel and the 512 cells of each kind are at least that room; every other entry call names what ran out. Where the least room has more than 512
 -- bindings or frames, no entry call answers a and every one names what ran out.
 pub record EntryReaches (table : List ℕ) (a : DefinedAnswer) : Type 0 where
-  pub defined : Reached (fromBytes table) a
+  pub defined : Reached (runTable (fromBytes table)) a
   pub greater : {fuel r : ℕ} → RunEntry table fuel r → AtLeast (defined .room) (entryRoom fuel) → r ≡ packed (code a) (payload a)
   pub least : {fuel r : ℕ} → RunEntry table fuel r → r % 256 ≡ code a → AtLeast (defined .room) (entryRoom fuel)
   pub others : {fuel r : ℕ} → RunEntry table fuel r → (r ≡ packed (code a) (payload a)) ⊎ RanOut (r % 256)

@@ -6,7 +6,7 @@ use mathlib.Core.List.{List}
 use native.Mathlib.Omega.{arith}
 use Rattle.inference.specs.Inference.{After, Infers, codeOf as inferredCode, placeOf}
 use Rattle.inference.specs.AnswerPlaces.{inferred-place}
-use Rattle.machine.specs.Answers.{codeOf, payloadOf}
+use Rattle.answers.specs.Answers.{codeOf, payloadOf}
 use Rattle.machine.specs.Runs.{RunIs}
 use Rattle.machine.specs.AnswerNumbers.{code-at-most-19}
 use Rattle.machine.specs.declared.Ran.{Ran}

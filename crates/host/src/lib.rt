@@ -80,7 +80,7 @@ fn run_words(words: &[u32], fuel: u32) -> u64
     let mut frames = [0u32; 4096];
     let ran = machine::run(words, fuel, &mut bindings, &mut frames);
     let answer = ran.answer;
-    pack(machine::code(answer), machine::payload(answer))
+    pack(answers::code(answer), answers::payload(answer))
 }
 
 // The run of a table: its code with its payload.

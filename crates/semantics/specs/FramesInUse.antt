@@ -33,7 +33,7 @@ binding-adds x empty k frames = tt
 binding-adds x (bound y v η) k frames = one-of (eqb y x) (length frames) (steps-to nothing (return v frames)) (newestBinding x η k frames) (omega arith) (binding-adds x η k frames)
 binding-adds x (rec-bound y j η) k frames = one-of (eqb y x) (length frames) (steps-to nothing (evaluate j η frames)) (newestBinding x η k frames) (omega arith) (binding-adds x η k frames)
 
-evaluated-adds : (node : Node) (k : ℕ) (η : Chain) (frames : List Frame) → Adds (length frames) (evaluated node k η frames)
+evaluated-adds : (node : Node) (k : ℕ) (η : Chain) (frames : List Frame) → Adds (length frames) (evaluated newestBinding node k η frames)
 evaluated-adds (constant-node c) k η frames = omega arith
 evaluated-adds (name-node x) k η frames = binding-adds x η k frames
 evaluated-adds (application-node l r) k η frames = omega arith

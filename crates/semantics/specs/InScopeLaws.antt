@@ -93,7 +93,7 @@ module _ {nd : Nodes} {n : ℕ} (t : ClosedTree nd n) where
 
   -- ---- Evaluating
 
-  evaluated-in-scope : {k : ℕ} {η : Chain} {frames : List Frame} (node : Node) → EnvironmentOf nd n k node η → FramesInScope nd n frames → LeadsOn (evaluated node k η frames)
+  evaluated-in-scope : {k : ℕ} {η : Chain} {frames : List Frame} (node : Node) → EnvironmentOf nd n k node η → FramesInScope nd n frames → LeadsOn (evaluated newestBinding node k η frames)
   evaluated-in-scope (constant-node c) env rest = return-in-scope (constant-in-scope c) rest
   evaluated-in-scope {k} {η} (name-node x) env rest = found-in-scope (StuckThere nd n) x k η (follows env) (t .bound (inside env) (node-is env) .1) rest
   evaluated-in-scope (application-node l r) env rest = evaluate-in-scope (enters field-a env refl (follows env)) (one-more (left-part-in-scope env) rest)

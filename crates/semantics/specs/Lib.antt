@@ -27,6 +27,7 @@ pub mod StandingLaws
 pub mod Simulation
 pub mod SmallEndLaws
 pub mod EndsLikeSmallSteps
+pub mod NodeRuns
 pub mod TableRuns
 -- Runs of the bench formulas.
 pub mod Examples

@@ -1,6 +1,7 @@
 -- What is proved of runs: demand 2's half about them, and demand 3. Everything is said of `runTable`, the run of a table with fuel and
 -- room (`Answer`, `Limits`, `Machine`), and of the small steps of the expression that the table stands for. `Checked words n` says that
 -- the check accepts the table; `EndsAs`, `Reached`, `NamesLimit` and `ComesTo` are defined in `SmallEnd`, `Reached` and `ComesTo`.
+-- `NodeRuns` has the same of nodes, wherever they are read from.
 use Prim.Native.Nat.{ℕ, _≤_, _<_}
 use mathlib.Core.Path.{_≡_}
 use mathlib.Core.Logic.{_⊎_, _≢_}
@@ -40,10 +41,10 @@ module _ {words : List ℕ} {n : ℕ} (checked : Checked words n) where
 
   -- (c) If the small steps bring it to a value or an exception, there is a least room that gives that end: all that are at least as large
   -- give it with the same counts, and all others name what ran out.
-  value-is-reached : {v : Exp} → Steps (expOf words) v → L2.Value v → Reached words (answerFor v)
+  value-is-reached : {v : Exp} → Steps (expOf words) v → L2.Value v → Reached (runTable words) (answerFor v)
   value-is-reached = TableRuns.value-is-reached checked
 
-  exception-is-reached : {e′ : Exp} {x : Exception} → Steps (expOf words) e′ → Step e′ (raised x) → Reached words (exception-answer x)
+  exception-is-reached : {e′ : Exp} {x : Exception} → Steps (expOf words) e′ → Step e′ (raised x) → Reached (runTable words) (exception-answer x)
   exception-is-reached = TableRuns.exception-is-reached checked
 
   -- (d) If the small steps go on without end, every run names what ran out.
@@ -71,18 +72,18 @@ module _ (words : List ℕ) (room : Room) where
   -- 17: the steps are the fuel, and the state has not come to an end.
   fuel-limit-means : runTable words room .answer ≡ limit-answer fuel-limit → (runTable words room .steps ≡ room .fuel) ×
       (s : State) × ComesTo (next (nodeAt words)) start s (runTable words room .steps) (runTable words room .bindings) × ((e : End) → next (nodeAt words) s ≢ at-end e)
-  fuel-limit-means is = StopsForLaws.fuel-limit-means (LimitMeans.limit-stops-for words room is)
+  fuel-limit-means is = StopsForLaws.fuel-limit-means (LimitMeans.limit-stops-for (nodeAt words) room is)
 
   -- 18: there is fuel, the bindings made are the capacity, and the next step needs one.
   binding-limit-means : runTable words room .answer ≡ limit-answer binding-limit → (runTable words room .steps < room .fuel) × (runTable words room .bindings ≡ room .bindings) ×
       (s : State) × ComesTo (next (nodeAt words)) start s (runTable words room .steps) (runTable words room .bindings) × (s′ : State) × (next (nodeAt words) s ≡ steps-to a-binding s′)
-  binding-limit-means is = StopsForLaws.binding-limit-means (LimitMeans.limit-stops-for words room is)
+  binding-limit-means is = StopsForLaws.binding-limit-means (LimitMeans.limit-stops-for (nodeAt words) room is)
 
   -- 19: there is fuel, the frames in use are the capacity, and the next step needs one.
   frame-limit-means : runTable words room .answer ≡ limit-answer frame-limit → (runTable words room .steps < room .fuel) ×
       (s : State) × ComesTo (next (nodeAt words)) start s (runTable words room .steps) (runTable words room .bindings) × (framesInUse s ≡ room .frames) ×
       (s′ : State) × (next (nodeAt words) s ≡ steps-to a-frame s′)
-  frame-limit-means is = StopsForLaws.frame-limit-means (LimitMeans.limit-stops-for words room is)
+  frame-limit-means is = StopsForLaws.frame-limit-means (LimitMeans.limit-stops-for (nodeAt words) room is)
 
 -- (e) The code of an answer is one of 10 to 19.
 answers-10-to-19 : (a : DefinedAnswer) → (10 ≤ code a) × (code a ≤ 19)

@@ -138,7 +138,7 @@ module _ {nd : Nodes} {n : ℕ} where
 module _ {nd : Nodes} {n : ℕ} (descending : Descending nd n) where
   evaluate-simulated : {k : ℕ} {η : Chain} {σ : Replacement} {frames : List Frame} {context : Exp → Exp} → k < n → ChainFor nd n η σ →
       Around nd n frames context → Closed (context (close σ (expAt nd n k))) →
-      Simulates nd n (context (close σ (expAt nd n k))) (work (expAt nd n k) + framesWork nd n frames) (evaluated (nd k) k η frames)
+      Simulates nd n (context (close σ (expAt nd n k))) (work (expAt nd n k) + framesWork nd n frames) (evaluated newestBinding (nd k) k η frames)
   unfolding close work framesWork
   evaluate-simulated {k} {η} {σ} {frames} {context} below chain around c = rw (exp-is descending k below) (go (nd k) refl)
     where
@@ -148,7 +148,7 @@ module _ {nd : Nodes} {n : ℕ} (descending : Descending nd n) where
           descending .inside below kid
 
       go : (node : Node) → nd k ≡ node →
-          Simulates nd n (context (close σ (shape (expAt nd n) node))) (work (shape (expAt nd n) node) + framesWork nd n frames) (evaluated node k η frames)
+          Simulates nd n (context (close σ (shape (expAt nd n) node))) (work (shape (expAt nd n) node) + framesWork nd n frames) (evaluated newestBinding node k η frames)
       go (constant-node a) e = no-small-step (returning (constant-for a) around) (omega arith)
       go (name-node x) e = looked-up around x k chain
       go (application-node l r) e = no-small-step (evaluating (inside field-a e refl) chain (left-of {k = k} (inside field-b e refl) chain around)) (omega arith)

@@ -7,7 +7,7 @@ fn run_in(words: &[u32], fuel: u32, bindings: &mut [u32], frames: &mut [u32]) {
     stores::fill(frames, 2);
     let ran = machine::run(words, fuel, bindings, frames);
     let answer = ran.answer;
-    lines::begin(machine::code(answer), machine::payload(answer) as u64);
+    lines::begin(answers::code(answer), answers::payload(answer) as u64);
     lines::more(ran.steps as u64);
     lines::more(ran.bindings as u64);
     lines::end_with(bindings, frames);
