@@ -97,7 +97,7 @@ checkNodes words nd n =
 unfoldable pub checkOf : List ℕ → Verdict
 checkOf words = refuseAt 1 (miscount (length words)) (checkNodes words (nodeAt words) (countOf words))
 
--- ---- Its numbers
+-- ---- The numbers of the rules
 
 abbrev pub checkCode : Verdict → ℕ
 checkCode (Accepted n) = 0

@@ -1,4 +1,4 @@
--- A row of the bench: a call on a formula table, and the numbers that the scope states of its answer. A row holds if every answer that
+-- A row of the bench: a call on a formula table, and the numbers that the rules state of its answer. A row holds if every answer that
 -- the call's contract allows begins with these numbers, whatever words the lent slices hold.
 use Prim.Native.Nat.{ℕ, _≤_}
 use mathlib.Core.Path.{_≡_}

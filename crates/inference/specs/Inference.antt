@@ -15,7 +15,7 @@ use Rattle.acceptance.specs.declared.Verdict.the-variants.{Accepted, Refused as
 use Rattle.inference.specs.declared.Inferred.{Inferred}
 use Rattle.inference.specs.declared.Inferred.the-variants.{Typed, Refused}
 
--- ---- The paper's numbers
+-- ---- The numbers of the rules
 
 abbrev pub codeOf : Inferred → ℕ
 codeOf (Typed count) = 0
