@@ -5,15 +5,6 @@ use Rattle.acceptance.specs.Stages.{count-halts, counted-nodes, after-co
 use Rattle.acceptance.proofs.check.Statement.{statement}
 use Rattle.acceptance.proofs.check.Tie as tie
 
-count-requires : tie.Need-count-requires
-count-requires c κs = search needs
-
-enum-known-counted : tie.Need-enum-known-counted
-enum-known-counted c = search needs
-
-enum-told : tie.Need-enum-told
-enum-told c = search needs
-
 returns : tie.Need-returns
 returns c =
     let counted = c .before .before in
@@ -24,12 +15,6 @@ fields-requires c κs =
     let told = c .before in
     let counted = told .before .before in
     counted-nodes (counted .before .before .args .words .now) (told .counted .given .0 .0) (counted .count .ensures) (told .counted .given .1) .0
-
-enum-told-2 : tie.Need-enum-told-2
-enum-told-2 c = search needs
-
-enum-told-3 : tie.Need-enum-told-3
-enum-told-3 c = search needs
 
 returns-2 : tie.Need-returns-2
 returns-2 c =
@@ -45,12 +30,6 @@ rooted-requires c κs =
     let told = c .before .before .before .before in
     let counted = told .before .before in
     counted-nodes (counted .before .before .args .words .now) (told .counted .given .0 .0) (counted .count .ensures) (told .counted .given .1)
-
-enum-told-4 : tie.Need-enum-told-4
-enum-told-4 c = search needs
-
-enum-told-5 : tie.Need-enum-told-5
-enum-told-5 c = search needs
 
 returns-3 : tie.Need-returns-3
 returns-3 c =
@@ -89,17 +68,17 @@ pub check-spec : {M : Type 1} → statement M
 check-spec =
     tie.close
     (tie.spec
-    count-requires
-    enum-known-counted
-    enum-told
+    (λ c κs. search needs)
+    (λ c. search needs)
+    (λ c. search needs)
     returns
     fields-requires
-    enum-told-2
-    enum-told-3
+    (λ c. search needs)
+    (λ c. search needs)
     returns-2
     rooted-requires
-    enum-told-4
-    enum-told-5
+    (λ c. search needs)
+    (λ c. search needs)
     returns-3
     names-requires
     returns-4)

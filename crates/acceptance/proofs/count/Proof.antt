@@ -9,9 +9,6 @@ use borrow.Author.Needs.{needs}
 use Rattle.acceptance.proofs.count.Statement.{statement}
 use Rattle.acceptance.proofs.count.Tie as tie
 
-cast-t9 : tie.Need-cast-t9
-cast-t9 c = search needs
-
 returns : tie.Need-returns
 returns c =
     let l = length (c .before .before .before .args .words .now) in
@@ -31,4 +28,4 @@ returns-4 c =
     rw (ne-eqb l 0 (omega arith), lt-ltb 2048 l (omega arith), or-true) refl
 
 pub count-spec : {M : Type 1} → statement M
-count-spec = tie.close (tie.spec cast-t9 returns returns-2 returns-3 returns-4)
+count-spec = tie.close (tie.spec (λ c. search needs) returns returns-2 returns-3 returns-4)

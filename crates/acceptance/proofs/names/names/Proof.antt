@@ -26,31 +26,13 @@ abbrev μ-nodes : tie.MeasureT-nodes
 nodes-holds : tie.Need-nodes-holds Inv-loop μ-loop Inv-nodes μ-nodes
 nodes-holds c = search-starts
 
-node-at-requires : tie.Need-node-at-requires Inv-loop μ-loop Inv-nodes μ-nodes
-node-at-requires c κs = omega arith
-
-add-k : tie.Need-add-k Inv-loop μ-loop Inv-nodes μ-nodes
-add-k c = omega arith
-
-nodes-less : tie.Need-nodes-less Inv-loop μ-loop Inv-nodes μ-nodes
-nodes-less c = omega arith
-
 nodes-again : tie.Need-nodes-again Inv-loop μ-loop Inv-nodes μ-nodes
 nodes-again c =
     let node = c .before .before .before in
     search-goes-on (node .nodes .inv) (c .before .before .if1 .left) (no-name-unbound (node .before .before .args .words .now) (node .nodes .k) (c .before .node-at .ensures) (c .if2 .taken))
 
-cast-i : tie.Need-cast-i Inv-loop μ-loop Inv-nodes μ-nodes
-cast-i c = omega arith
-
-mul-i : tie.Need-mul-i Inv-loop μ-loop Inv-nodes μ-nodes
-mul-i c = omega arith
-
 loop-holds : tie.Need-loop-holds Inv-loop μ-loop Inv-nodes μ-nodes
 loop-holds c = walk-starts
-
-sub-i : tie.Need-sub-i Inv-loop μ-loop Inv-nodes μ-nodes
-sub-i c = omega arith
 
 walk-at-requires : tie.Need-walk-at-requires Inv-loop μ-loop Inv-nodes μ-nodes
 walk-at-requires c κs = (omega arith, omega arith)
@@ -61,20 +43,11 @@ enum-known-walked c = c .match .keys1
 enum-told : tie.Need-enum-told Inv-loop μ-loop Inv-nodes μ-nodes
 enum-told c = c .match .keys2
 
-loop-less : tie.Need-loop-less Inv-loop μ-loop Inv-nodes μ-nodes
-loop-less c = omega arith
-
 loop-again : tie.Need-loop-again Inv-loop μ-loop Inv-nodes μ-nodes
 loop-again c =
     let walked = c .before .before .before in
     let w = walked .before .before .loop .inv in
     walk-goes-on w (omega arith) (walked .walk-at .ensures) (c .before .walked .given .1)
-
-add-k-2 : tie.Need-add-k-2 Inv-loop μ-loop Inv-nodes μ-nodes
-add-k-2 c = omega arith
-
-nodes-less-2 : tie.Need-nodes-less-2 Inv-loop μ-loop Inv-nodes μ-nodes
-nodes-less-2 c = omega arith
 
 nodes-again-2 : tie.Need-nodes-again-2 Inv-loop μ-loop Inv-nodes μ-nodes
 nodes-again-2 c =
@@ -104,21 +77,21 @@ names-spec =
     Inv-nodes
     μ-nodes
     nodes-holds
-    node-at-requires
-    add-k
-    nodes-less
+    (λ c κs. omega arith)
+    (λ c. omega arith)
+    (λ c. omega arith)
     nodes-again
-    cast-i
-    mul-i
+    (λ c. omega arith)
+    (λ c. omega arith)
     loop-holds
-    sub-i
+    (λ c. omega arith)
     walk-at-requires
     enum-known-walked
     enum-told
-    loop-less
+    (λ c. omega arith)
     loop-again
-    add-k-2
-    nodes-less-2
+    (λ c. omega arith)
+    (λ c. omega arith)
     nodes-again-2
     returns
     returns-2)

@@ -17,20 +17,11 @@ abbrev μ-loop : tie.MeasureT-loop
 loop-holds : tie.Need-loop-holds Inv-loop μ-loop
 loop-holds c = (omega arith, sym (no-children-yet (nodeAt (c .before .args .words .now))), omega arith)
 
-children-at-requires : tie.Need-children-at-requires Inv-loop μ-loop
-children-at-requires c κs = omega arith
-
 cast-count : tie.Need-cast-count Inv-loop μ-loop
 cast-count c = omega (arith, c .children-at .ensures .1)
 
 add-count : tie.Need-add-count Inv-loop μ-loop
 add-count c = omega (arith, c .children-at .ensures .1, c .before .before .loop .inv .2, c .before .loop-test .taken, c .before .before .before .before .fits .n)
-
-add-p : tie.Need-add-p Inv-loop μ-loop
-add-p c = omega arith
-
-loop-less : tie.Need-loop-less Inv-loop μ-loop
-loop-less c = omega arith
 
 loop-again : tie.Need-loop-again Inv-loop μ-loop
 loop-again c =
@@ -50,10 +41,10 @@ children-spec =
     Inv-loop
     μ-loop
     loop-holds
-    children-at-requires
+    (λ c κs. omega arith)
     cast-count
     add-count
-    add-p
-    loop-less
+    (λ c. omega arith)
+    (λ c. omega arith)
     loop-again
     returns)

@@ -4,15 +4,9 @@ use borrow.Author.Needs.{needs}
 use Rattle.acceptance.proofs.parents.children_at.Statement.{statement}
 use Rattle.acceptance.proofs.parents.children_at.Tie as tie
 
-node-at-requires : tie.Need-node-at-requires
-node-at-requires c κs = search needs
-
-children-in-requires : tie.Need-children-in-requires
-children-in-requires c κs = search needs
-
 returns : tie.Need-returns
 unfolding nodeAt
 returns c = rw (c .before .node-at .ensures) at (c .children-in .ensures)
 
 pub children-at-spec : {M : Type 1} → statement M
-children-at-spec = tie.close (tie.spec node-at-requires children-in-requires returns)
+children-at-spec = tie.close (tie.spec (λ c κs. search needs) (λ c κs. search needs) returns)

@@ -12,26 +12,11 @@ Inv-loop words k p₀ p = p ≤ k
 abbrev μ-loop : tie.MeasureT-loop
 μ-loop words k p₀ p = p
 
-loop-holds : tie.Need-loop-holds Inv-loop μ-loop
-loop-holds c = omega arith
-
-sub-p : tie.Need-sub-p Inv-loop μ-loop
-sub-p c = omega arith
-
-times-at-requires : tie.Need-times-at-requires Inv-loop μ-loop
-times-at-requires c κs = omega arith
-
 returns : tie.Need-returns Inv-loop μ-loop
 returns c =
     let at = c .before .before .before in
     let call = at .before .before in
     λ e. parent-found (nodeAt (call .args .words .now)) (call .args .k) (at .loop .p - 1) (omega arith) (omega arith)
-
-loop-less : tie.Need-loop-less Inv-loop μ-loop
-loop-less c = omega arith
-
-loop-again : tie.Need-loop-again Inv-loop μ-loop
-loop-again c = omega arith
 
 returns-2 : tie.Need-returns-2 Inv-loop μ-loop
 returns-2 c = no-claim
@@ -42,10 +27,10 @@ has-parent-spec =
     (tie.spec
     Inv-loop
     μ-loop
-    loop-holds
-    sub-p
-    times-at-requires
+    (λ c. omega arith)
+    (λ c. omega arith)
+    (λ c κs. omega arith)
     returns
-    loop-less
-    loop-again
+    (λ c. omega arith)
+    (λ c. omega arith)
     returns-2)

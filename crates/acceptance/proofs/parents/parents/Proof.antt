@@ -29,30 +29,12 @@ nodes-holds c = (omega arith, search-goes-on search-starts (c .before .pre .1) r
 loop-holds : tie.Need-loop-holds Inv-loop μ-loop Inv-nodes μ-nodes
 loop-holds c = (omega arith, sym (times-start (nodeAt (c .before .before .before .args .words .now)) _), omega arith)
 
-times-at-requires : tie.Need-times-at-requires Inv-loop μ-loop Inv-nodes μ-nodes
-times-at-requires c κs = omega arith
-
-add-times : tie.Need-add-times Inv-loop μ-loop Inv-nodes μ-nodes
-add-times c = omega arith
-
-add-p : tie.Need-add-p Inv-loop μ-loop Inv-nodes μ-nodes
-add-p c = omega arith
-
-loop-less : tie.Need-loop-less Inv-loop μ-loop Inv-nodes μ-nodes
-loop-less c = omega arith
-
 loop-again : tie.Need-loop-again Inv-loop μ-loop Inv-nodes μ-nodes
 loop-again c =
     let counting = c .before .before .before in
     let node = counting .before .before in
     let next = times-next (nodeAt (node .before .before .args .words .now)) (node .nodes .k) (counting .loop .p) in
     (omega arith, omega arith, omega arith)
-
-add-k : tie.Need-add-k Inv-loop μ-loop Inv-nodes μ-nodes
-add-k c = omega arith
-
-nodes-less : tie.Need-nodes-less Inv-loop μ-loop Inv-nodes μ-nodes
-nodes-less c = omega arith
 
 nodes-again : tie.Need-nodes-again Inv-loop μ-loop Inv-nodes μ-nodes
 nodes-again c =
@@ -95,13 +77,13 @@ parents-spec =
     μ-nodes
     nodes-holds
     loop-holds
-    times-at-requires
-    add-times
-    add-p
-    loop-less
+    (λ c κs. omega arith)
+    (λ c. omega arith)
+    (λ c. omega arith)
+    (λ c. omega arith)
     loop-again
-    add-k
-    nodes-less
+    (λ c. omega arith)
+    (λ c. omega arith)
     nodes-again
     returns
     returns-2

@@ -26,15 +26,6 @@ returns c = no-claim
 loop-holds : tie.Need-loop-holds Inv-loop μ-loop
 loop-holds c = (omega arith, λ j low high. absurd (omega arith))
 
-has-parent-requires : tie.Need-has-parent-requires Inv-loop μ-loop
-has-parent-requires c κs = omega arith
-
-add-k : tie.Need-add-k Inv-loop μ-loop
-add-k c = omega arith
-
-loop-less : tie.Need-loop-less Inv-loop μ-loop
-loop-less c = omega arith
-
 loop-again : tie.Need-loop-again Inv-loop μ-loop
 loop-again c =
     let node = c .before .before .before in
@@ -62,9 +53,9 @@ placed-spec =
     add-if1
     returns
     loop-holds
-    has-parent-requires
-    add-k
-    loop-less
+    (λ c κs. omega arith)
+    (λ c. omega arith)
+    (λ c. omega arith)
     loop-again
     returns-2
     returns-3)

@@ -4,15 +4,9 @@ use Rattle.table.specs.Node.{nodeAt}
 use Rattle.acceptance.proofs.parents.times_at.Statement.{statement}
 use Rattle.acceptance.proofs.parents.times_at.Tie as tie
 
-node-at-requires : tie.Need-node-at-requires
-node-at-requires c κs = search needs
-
-times-in-requires : tie.Need-times-in-requires
-times-in-requires c κs = search needs
-
 returns : tie.Need-returns
 unfolding nodeAt
 returns c = rw (c .before .node-at .ensures) at (c .times-in .ensures)
 
 pub times-at-spec : {M : Type 1} → statement M
-times-at-spec = tie.close (tie.spec node-at-requires times-in-requires returns)
+times-at-spec = tie.close (tie.spec (λ c κs. search needs) (λ c κs. search needs) returns)

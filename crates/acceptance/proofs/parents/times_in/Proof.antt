@@ -8,24 +8,6 @@ use Rattle.acceptance.specs.CountingLaws.{leaf-holds-nothing, one-child}
 use Rattle.acceptance.proofs.parents.times_in.Statement.{statement}
 use Rattle.acceptance.proofs.parents.times_in.Tie as tie
 
-times-of-two-requires : tie.Need-times-of-two-requires
-times-of-two-requires c κs = search needs
-
-times-of-two-requires-2 : tie.Need-times-of-two-requires-2
-times-of-two-requires-2 c κs = search needs
-
-one-if-requires : tie.Need-one-if-requires
-one-if-requires c κs = search needs
-
-add-result : tie.Need-add-result
-add-result c = search needs
-
-one-if-requires-2 : tie.Need-one-if-requires-2
-one-if-requires-2 c κs = search needs
-
-times-of-two-requires-3 : tie.Need-times-of-two-requires-3
-times-of-two-requires-3 c κs = search needs
-
 returns : tie.Need-returns
 unfolding nodeOf
 returns c = (rw (c .before .match .keys1) (omega arith), omega arith)
@@ -50,12 +32,12 @@ pub times-in-spec : {M : Type 1} → statement M
 times-in-spec =
     tie.close
     (tie.spec
-    times-of-two-requires
-    times-of-two-requires-2
-    one-if-requires
-    add-result
-    one-if-requires-2
-    times-of-two-requires-3
+    (λ c κs. search needs)
+    (λ c κs. search needs)
+    (λ c κs. search needs)
+    (λ c. search needs)
+    (λ c κs. search needs)
+    (λ c κs. search needs)
     returns
     returns-2
     returns-3

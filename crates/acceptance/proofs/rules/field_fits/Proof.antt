@@ -5,15 +5,6 @@ use Rattle.acceptance.specs.FieldRules.{field-is-third}
 use Rattle.acceptance.proofs.rules.field_fits.Statement.{statement}
 use Rattle.acceptance.proofs.rules.field_fits.Tie as tie
 
-first-fits-requires : tie.Need-first-fits-requires
-first-fits-requires c κs = search needs
-
-second-fits-requires : tie.Need-second-fits-requires
-second-fits-requires c κs = search needs
-
-third-fits-requires : tie.Need-third-fits-requires
-third-fits-requires c κs = search needs
-
 returns : tie.Need-returns
 returns c = rw (c .before .match .keys1) (c .first-fits .ensures)
 
@@ -27,4 +18,4 @@ returns-3 c =
 
 pub field-fits-spec : {M : Type 1} → statement M
 field-fits-spec =
-    tie.close (tie.spec first-fits-requires second-fits-requires third-fits-requires returns returns-2 returns-3)
+    tie.close (tie.spec (λ c κs. search needs) (λ c κs. search needs) (λ c κs. search needs) returns returns-2 returns-3)

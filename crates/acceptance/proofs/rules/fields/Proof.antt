@@ -31,20 +31,8 @@ loop-holds c = search-starts
 misfits-requires : tie.Need-misfits-requires Inv-loop μ-loop Inv-nodes μ-nodes
 misfits-requires c κs = (omega arith, omega arith)
 
-add-f : tie.Need-add-f Inv-loop μ-loop Inv-nodes μ-nodes
-add-f c = omega arith
-
-loop-less : tie.Need-loop-less Inv-loop μ-loop Inv-nodes μ-nodes
-loop-less c = omega arith
-
 loop-again : tie.Need-loop-again Inv-loop μ-loop Inv-nodes μ-nodes
 loop-again c = search-goes-on (c .before .before .before .loop .inv) (c .before .before .loop-test .taken) (sym (c .before .misfits .ensures) ∙ c .if2 .left)
-
-add-k : tie.Need-add-k Inv-loop μ-loop Inv-nodes μ-nodes
-add-k c = omega arith
-
-nodes-less : tie.Need-nodes-less Inv-loop μ-loop Inv-nodes μ-nodes
-nodes-less c = omega arith
 
 nodes-again : tie.Need-nodes-again Inv-loop μ-loop Inv-nodes μ-nodes
 nodes-again c =
@@ -76,11 +64,11 @@ fields-spec =
     nodes-holds
     loop-holds
     misfits-requires
-    add-f
-    loop-less
+    (λ c. omega arith)
+    (λ c. omega arith)
     loop-again
-    add-k
-    nodes-less
+    (λ c. omega arith)
+    (λ c. omega arith)
     nodes-again
     returns
     returns-2)

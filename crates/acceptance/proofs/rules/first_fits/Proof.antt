@@ -7,18 +7,6 @@ use Rattle.acceptance.specs.FieldRules.{firstFits, first-is-child, first
 use Rattle.acceptance.proofs.rules.first_fits.Statement.{statement}
 use Rattle.acceptance.proofs.rules.first_fits.Tie as tie
 
-is-unused-requires : tie.Need-is-unused-requires
-is-unused-requires c κs = search needs
-
-is-name-requires : tie.Need-is-name-requires
-is-name-requires c κs = search needs
-
-is-child-requires : tie.Need-is-child-requires
-is-child-requires c κs = search needs
-
-is-name-requires-2 : tie.Need-is-name-requires-2
-is-name-requires-2 c κs = search needs
-
 returns : tie.Need-returns
 unfolding firstFits
 returns c = rw (c .before .match .keys1) (c .is-unused .ensures)
@@ -60,10 +48,10 @@ pub first-fits-spec : {M : Type 1} → statement M
 first-fits-spec =
     tie.close
     (tie.spec
-    is-unused-requires
-    is-name-requires
-    is-child-requires
-    is-name-requires-2
+    (λ c κs. search needs)
+    (λ c κs. search needs)
+    (λ c κs. search needs)
+    (λ c κs. search needs)
     returns
     returns-2
     returns-3

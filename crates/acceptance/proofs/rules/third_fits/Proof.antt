@@ -4,12 +4,6 @@ use Rattle.acceptance.specs.FieldRules.{an-if-or-let, no-if-or-let}
 use Rattle.acceptance.proofs.rules.third_fits.Statement.{statement}
 use Rattle.acceptance.proofs.rules.third_fits.Tie as tie
 
-is-child-requires : tie.Need-is-child-requires
-is-child-requires c κs = search needs
-
-is-unused-requires : tie.Need-is-unused-requires
-is-unused-requires c κs = search needs
-
 returns : tie.Need-returns
 returns c = rw (an-if-or-let _ (c .before .match .keys1)) (c .is-child .ensures)
 
@@ -17,4 +11,4 @@ returns-2 : tie.Need-returns-2
 returns-2 c = rw (no-if-or-let _ (c .before .match .rest .1)) (c .is-unused .ensures)
 
 pub third-fits-spec : {M : Type 1} → statement M
-third-fits-spec = tie.close (tie.spec is-child-requires is-unused-requires returns returns-2)
+third-fits-spec = tie.close (tie.spec (λ c κs. search needs) (λ c κs. search needs) returns returns-2)

@@ -6,12 +6,6 @@ use Rattle.table.specs.NodeLaws.{read-name, read-no-name}
 use Rattle.table.proofs.binders.binder.Statement.{statement}
 use Rattle.table.proofs.binders.binder.Tie as tie
 
-node-at-requires : tie.Need-node-at-requires
-node-at-requires c κs = search needs
-
-lookup-requires : tie.Need-lookup-requires
-lookup-requires c κs = search needs
-
 returns : tie.Need-returns
 returns c =
     let read = c .before .before .node-at .ensures in
@@ -24,4 +18,4 @@ returns-3 : tie.Need-returns-3
 returns-3 c = rw (le-ltb _ _ (c .if1 .left)) refl
 
 pub binder-spec : {M : Type 1} → statement M
-binder-spec = tie.close (tie.spec node-at-requires lookup-requires returns returns-2 returns-3)
+binder-spec = tie.close (tie.spec (λ c κs. search needs) (λ c κs. search needs) returns returns-2 returns-3)

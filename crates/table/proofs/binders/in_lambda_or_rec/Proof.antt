@@ -5,18 +5,6 @@ use borrow.Author.Tests.{eq-eqb, ne-eqb}
 use Rattle.table.proofs.binders.in_lambda_or_rec.Statement.{statement}
 use Rattle.table.proofs.binders.in_lambda_or_rec.Tie as tie
 
-add-if1 : tie.Need-add-if1
-add-if1 c = search needs
-
-mul-if1 : tie.Need-mul-if1
-mul-if1 c = search needs
-
-shared-slice-read-if1 : tie.Need-shared-slice-read-if1
-shared-slice-read-if1 c = search needs
-
-named-requires : tie.Need-named-requires
-named-requires c κs = search needs
-
 returns : tie.Need-returns
 returns c = rw (eq-eqb _ _ (c .before .if1 .taken)) (c .named .ensures)
 
@@ -25,4 +13,4 @@ returns-2 c = rw (ne-eqb _ _ (c .if1 .left)) refl
 
 pub in-lambda-or-rec-spec : {M : Type 1} → statement M
 in-lambda-or-rec-spec =
-    tie.close (tie.spec add-if1 mul-if1 shared-slice-read-if1 named-requires returns returns-2)
+    tie.close (tie.spec (λ c. search needs) (λ c. search needs) (λ c. search needs) (λ c κs. search needs) returns returns-2)

@@ -13,14 +13,8 @@ Inv-loop words x k current₀ i₀ current i = Walking words x k current i
 abbrev μ-loop : tie.MeasureT-loop
 μ-loop words x k current₀ i₀ current i = i
 
-mul-i : tie.Need-mul-i Inv-loop μ-loop
-mul-i c = omega arith
-
 loop-holds : tie.Need-loop-holds Inv-loop μ-loop
 loop-holds c = walk-starts
-
-sub-i : tie.Need-sub-i Inv-loop μ-loop
-sub-i c = omega arith
 
 walk-at-requires : tie.Need-walk-at-requires Inv-loop μ-loop
 walk-at-requires c κs = (omega arith, omega arith)
@@ -31,18 +25,12 @@ enum-known-walked c = c .match .keys1
 enum-told : tie.Need-enum-told Inv-loop μ-loop
 enum-told c = c .match .keys2
 
-cast-p : tie.Need-cast-p Inv-loop μ-loop
-cast-p c = omega arith
-
 returns : tie.Need-returns Inv-loop μ-loop
 returns c =
     let walked = c .before .before in
     let tested = walked .before in
     let w = tested .before .loop .inv in
     ap binderAnswer (sym (walk-finds w (tested .loop-test .taken) (walked .walk-at .ensures) (c .enum-told .given .1)))
-
-loop-less : tie.Need-loop-less Inv-loop μ-loop
-loop-less c = omega arith
 
 loop-again : tie.Need-loop-again Inv-loop μ-loop
 loop-again c =
@@ -60,14 +48,14 @@ lookup-spec =
     (tie.spec
     Inv-loop
     μ-loop
-    mul-i
+    (λ c. omega arith)
     loop-holds
-    sub-i
+    (λ c. omega arith)
     walk-at-requires
     enum-known-walked
     enum-told
-    cast-p
+    (λ c. omega arith)
     returns
-    loop-less
+    (λ c. omega arith)
     loop-again
     returns-2)

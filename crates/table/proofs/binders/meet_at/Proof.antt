@@ -5,24 +5,6 @@ use Rattle.table.specs.NodeLaws.{leaf, leaf-is-no-parent, lambda-or-rec-
 use Rattle.table.proofs.binders.meet_at.Statement.{statement}
 use Rattle.table.proofs.binders.meet_at.Tie as tie
 
-mul-kind : tie.Need-mul-kind
-mul-kind c = search needs
-
-shared-slice-read-kind : tie.Need-shared-slice-read-kind
-shared-slice-read-kind c = search needs
-
-in-application-requires : tie.Need-in-application-requires
-in-application-requires c κs = search needs
-
-in-if-requires : tie.Need-in-if-requires
-in-if-requires c κs = search needs
-
-in-lambda-or-rec-requires : tie.Need-in-lambda-or-rec-requires
-in-lambda-or-rec-requires c κs = search needs
-
-in-let-requires : tie.Need-in-let-requires
-in-let-requires c κs = search needs
-
 returns : tie.Need-returns
 returns c = rw (application-met _ _ _ _ _ _ (c .before .match .keys1)) (c .in-application .ensures)
 
@@ -44,12 +26,12 @@ pub meet-at-spec : {M : Type 1} → statement M
 meet-at-spec =
     tie.close
     (tie.spec
-    mul-kind
-    shared-slice-read-kind
-    in-application-requires
-    in-if-requires
-    in-lambda-or-rec-requires
-    in-let-requires
+    (λ c. search needs)
+    (λ c. search needs)
+    (λ c κs. search needs)
+    (λ c κs. search needs)
+    (λ c κs. search needs)
+    (λ c κs. search needs)
     returns
     returns-2
     returns-3

@@ -6,17 +6,8 @@ use borrow.Author.Tests.{not-true}
 use Rattle.table.proofs.binders.walk_at.Statement.{statement}
 use Rattle.table.proofs.binders.walk_at.Tie as tie
 
-mentions-requires : tie.Need-mentions-requires
-mentions-requires c κs = search needs
-
 returns : tie.Need-returns
 returns c = rw (c .before .mentions .ensures (not-true _ (c .if1 .taken)) .elsewhere _) refl
-
-meet-at-requires : tie.Need-meet-at-requires
-meet-at-requires c κs = search needs
-
-cast-p : tie.Need-cast-p
-cast-p c = omega arith
 
 enum-told : tie.Need-enum-told
 enum-told c = c .match .keys1
@@ -40,10 +31,10 @@ pub walk-at-spec : {M : Type 1} → statement M
 walk-at-spec =
     tie.close
     (tie.spec
-    mentions-requires
+    (λ c κs. search needs)
     returns
-    meet-at-requires
-    cast-p
+    (λ c κs. search needs)
+    (λ c. omega arith)
     enum-told
     enum-told-2
     enum-told-3
