@@ -1,19 +1,19 @@
 -- The scan from the left gives the words of the whole input.
 use Prim.Native.Nat.{ℕ, suc, _+_, _≤_, _<_}
-use mathlib.Core.Path.{_≡_, refl, sym, _∙_, ap}
+use mathlib.Core.Path.{_≡_, refl, _∙_, ap}
 use mathlib.Core.Bool.{Bool, true, false, cond}
 use mathlib.Core.List.{List, [], _∷_, _++_, foldl, foldl-append, append-nil, append-assoc}
 use mathlib.Core.Option.{Option, none, some}
 use native.Mathlib.Omega.{arith}
 use native.Mathlib.Nat.{zero-add}
 use lib.Dec.{ltb, leb}
-use lib.ListN.{length, take, set, length-append}
+use lib.ListN.{length, set, length-append}
 use borrow.Author.Tests.{ltb-true, ltb-false, lt-leb, le-leb}
 use Rattle.lent.specs.Written.{Written}
 use Rattle.lent.specs.WrittenLaws.{written-none, written-one, written-length, written-then}
 use Rattle.lent.specs.Writing.{first-written}
 use Rattle.decimal.specs.Input.{isSpace, afterByte, runs, withoutEmpty, tokens, isDigit, withDigit, wordLimit, numberOf, both, numbersOf, wordsIn}
-use Rattle.decimal.specs.Scan.{ScanState, stands, slice, withWord, withDigitRead, scanByte, scanned, ended, found, wordsFound}
+use Rattle.decimal.specs.Scan.{ScanState, stands, withWord, spaceRead, inToken, otherRead, scanByte, scanned, finish, wordsAt}
 use Rattle.decimal.specs.TokenLaws.{joined, joined-first, joined-ended, joined-longer, Runs, runs-are, some-run, valueSoFar, Begun, between, within, begun-number, no-number-longer, no-digit, grows, too-large}
 use Rattle.decimal.specs.declared.Scanner.{Scanner}
 use Rattle.decimal.specs.declared.Scanner.the-variants.{Failed, Between, Inside}
@@ -84,8 +84,8 @@ module _ {slice₀ words now : List ℕ} {count : ℕ} (holds : Holds slice₀ w
     fits = rw length-append (omega (arith, counted, as-long));
   }
 
-  words-found : found (ended (stands (Between count) now)) now ≡ some words
-  words-found = rw (le-leb count (length now) (omega (arith, counted, as-long, holds .fits))) (ap some (first-written (holds .written) (holds .fits)))
+  words-found : wordsAt (stands (Between count) now) ≡ some words
+  words-found = ap some (first-written (holds .written) (holds .fits))
 
 -- ---- A token ends
 
@@ -94,24 +94,14 @@ abbrev standing : ℕ → Option ℕ → Scanner
 standing count none = Between count
 standing count (some value) = Inside count value
 
-abbrev closed : ℕ → Option ℕ → List ℕ → ScanState
-closed count none words = stands (Between count) words
-closed count (some value) words = withWord count value words
-
-scan-byte-is : (count : ℕ) (token : Option ℕ) (words : List ℕ) (b : ℕ) →
-    scanByte (stands (standing count token) words) b ≡ cond (isSpace b) (closed count token words) (stands (withDigitRead count (valueSoFar token) b) words)
-unfolding scanByte
-scan-byte-is count none words b = go (isSpace b)
-  where
-    go : (space : Bool) → stands (cond space (Between count) (withDigitRead count 0 b)) words ≡ cond space (stands (Between count) words) (stands (withDigitRead count 0 b) words)
-    go true = refl
-    go false = refl
-scan-byte-is count (some value) words b = refl
+other-is : (count : ℕ) (token : Option ℕ) (b : ℕ) → otherRead (standing count token) b ≡ inToken count (valueSoFar token) b
+other-is count none b = refl
+other-is count (some value) b = refl
 
 module _ {slice₀ : List ℕ} (goesOn : ScanState → Option (List ℕ)) (others : List (List ℕ)) (stays : (now : List ℕ) → goesOn (stands Failed now) ≡ none)
     (reads : (words now : List ℕ) (count : ℕ) → Holds slice₀ words now count → goesOn (stands (Between count) now) ≡ answer (length slice₀) words (withoutEmpty others)) where
   ends : {words now run : List ℕ} {count : ℕ} {token : Option ℕ} → Holds slice₀ words now count → Begun run token →
-      goesOn (closed count token now) ≡ answer (length slice₀) words (withoutEmpty (run ∷ others))
+      goesOn (spaceRead (standing count token) now) ≡ answer (length slice₀) words (withoutEmpty (run ∷ others))
   unfolding withoutEmpty
   ends {words} {now} {count = count} holds between = reads words now count holds
   ends {words} {now} {count = count} holds (within {b} {run} {value} digits is below) = go (ltb count (length now)) refl
@@ -128,11 +118,14 @@ module _ {slice₀ : List ℕ} (goesOn : ScanState → Option (List ℕ)) (other
 pub failed-stays : (words input : List ℕ) → foldl scanByte (stands Failed words) input ≡ stands Failed words
 unfolding scanByte
 failed-stays words [] = refl
-failed-stays words (b ∷ input) = failed-stays words input
+failed-stays words (b ∷ input) = ap (λ s. foldl scanByte s input) (go (isSpace b)) ∙ failed-stays words input
+  where
+    go : (space : Bool) → cond space (stands Failed words) (stands Failed words) ≡ stands Failed words
+    go true = refl
+    go false = refl
 
-failed-ends : (words input : List ℕ) → wordsFound (foldl scanByte (stands Failed words) input) ≡ none
-unfolding scanByte
-failed-ends words input = ap wordsFound (failed-stays words input)
+failed-ends : (words input : List ℕ) → wordsAt (finish (foldl scanByte (stands Failed words) input)) ≡ none
+failed-ends words input = ap (λ s. wordsAt (finish s)) (failed-stays words input)
 
 -- A token that begins so is no number.
 refused : (most : ℕ) (words run : List ℕ) (b : ℕ) (input : List ℕ) → numberOf (run ++ b ∷ []) ≡ none → none ≡ answer most words (withoutEmpty (joined (run ++ b ∷ []) (runs input)))
@@ -147,41 +140,42 @@ module _ (slice₀ : List ℕ) where
   -- What the rest of an input makes of a state.
   record ReadsRest (input : List ℕ) : Type 0 where
     from : {words now run : List ℕ} {count : ℕ} {token : Option ℕ} → Holds slice₀ words now count → Begun run token →
-        wordsFound (foldl scanByte (stands (standing count token) now) input) ≡ answer (length slice₀) words (withoutEmpty (joined run (runs input)))
+        wordsAt (finish (foldl scanByte (stands (standing count token) now) input)) ≡ answer (length slice₀) words (withoutEmpty (joined run (runs input)))
 
   module _ (b : ℕ) (input : List ℕ) (rest : ReadsRest input) {words now run : List ℕ} {count : ℕ} {token : Option ℕ} (holds : Holds slice₀ words now count) (begun : Begun run token) where
     abbrev value : ℕ
     value = withDigit (valueSoFar token) b
 
-    in-token : wordsFound (foldl scanByte (stands (withDigitRead count (valueSoFar token) b) now) input) ≡ answer (length slice₀) words (withoutEmpty (joined (run ++ b ∷ []) (runs input)))
+    in-token : wordsAt (finish (foldl scanByte (stands (inToken count (valueSoFar token) b) now) input)) ≡ answer (length slice₀) words (withoutEmpty (joined (run ++ b ∷ []) (runs input)))
     in-token = go (isDigit b) (ltb value wordLimit) refl refl
       where
         go : (digit below : Bool) → isDigit b ≡ digit → ltb value wordLimit ≡ below →
-            wordsFound (foldl scanByte (stands (cond digit (cond below (Inside count value) Failed) Failed) now) input) ≡ answer (length slice₀) words (withoutEmpty (joined (run ++ b ∷ []) (runs input)))
+            wordsAt (finish (foldl scanByte (stands (cond digit (cond below (Inside count value) Failed) Failed) now) input)) ≡
+            answer (length slice₀) words (withoutEmpty (joined (run ++ b ∷ []) (runs input)))
         go true true d l = rest .from holds (grows begun b d (ltb-true _ _ l))
         go true false d l = failed-ends now input ∙ refused (length slice₀) words run b input (too-large begun b d (ltb-false _ _ l))
         go false below d l = failed-ends now input ∙ refused (length slice₀) words run b input (no-digit begun b d)
 
-    one-byte : wordsFound (foldl scanByte (scanByte (stands (standing count token) now) b) input) ≡ answer (length slice₀) words (withoutEmpty (joined run (runs (b ∷ input))))
-    unfolding runs joined
-    one-byte = rw (scan-byte-is count token now b) (go (isSpace b))
+    one-byte : wordsAt (finish (foldl scanByte (scanByte (stands (standing count token) now) b) input)) ≡ answer (length slice₀) words (withoutEmpty (joined run (runs (b ∷ input))))
+    unfolding scanByte runs joined
+    one-byte = go (isSpace b)
       where
-        go : (space : Bool) → wordsFound (foldl scanByte (cond space (closed count token now) (stands (withDigitRead count (valueSoFar token) b) now)) input) ≡
+        go : (space : Bool) → wordsAt (finish (foldl scanByte (cond space (spaceRead (standing count token) now) (stands (otherRead (standing count token) b) now)) input)) ≡
             answer (length slice₀) words (withoutEmpty (joined run (afterByte space b (runs input))))
-        go true = rw (joined-ended run (runs input)) (ends (λ state. wordsFound (foldl scanByte state input)) (runs input) (λ now. failed-ends now input) (λ words now count holds. rest .from holds between) holds begun)
-        go false = rw (joined-longer run b (runs input)) in-token
+        go true =
+            rw (joined-ended run (runs input)) (ends (λ s. wordsAt (finish (foldl scanByte s input))) (runs input) (λ now. failed-ends now input) (λ words now count holds. rest .from holds between) holds begun)
+        go false = rw (joined-longer run b (runs input), other-is count token b) in-token
 
   reads-rest : (input : List ℕ) → ReadsRest input
   unfolding runs withoutEmpty
   reads-rest [] = record {
-    from = λ {words} {now} {run} {count} {token} holds begun.
-        rw (scan-byte-is count token now 32, joined-ended run [])
-        (ends (λ state. found (ended state) (slice state)) [] (λ now. refl) (λ words now count holds. words-found holds ∙ answer-none (length slice₀) words (holds .fits)) holds begun);
+    from = λ {run = run} holds begun.
+        rw (joined-ended run []) (ends wordsAt [] (λ now. refl) (λ words now count holds. words-found holds ∙ answer-none (length slice₀) words (holds .fits)) holds begun);
   }
   reads-rest (b ∷ input) = record { from = λ holds begun. one-byte b input (reads-rest input) holds begun }
 
 -- The words that are found are those of the input, and no more than the slice has.
-pub scan-is-words-in : (words input : List ℕ) → wordsFound (scanned words input) ≡ wordsIn (length words) input
+pub scan-is-words-in : (words input : List ℕ) → wordsAt (finish (scanned words input)) ≡ wordsIn (length words) input
 unfolding joined
 scan-is-words-in words input =
     reads-rest words input .from (record { written = written-none words 0; fits = omega arith }) between ∙ answer-all (length words) (tokens input)

@@ -4,30 +4,32 @@ use mathlib.Core.Path.{_≡_, refl, sym, _∙_, ap}
 use mathlib.Core.Bool.{Bool, true, false, cond}
 use mathlib.Core.List.{List, [], _∷_, foldl}
 use native.Mathlib.Numerals.{add-one}
-use native.Mathlib.Omega.{arith}
-use lib.Dec.{ltb, leb}
+use lib.Dec.{ltb}
 use lib.ListN.{length, set, length-set, drop, getD, drop-of-length-le}
 use lib.Seq.{drop-cons}
-use borrow.Author.Tests.{leb-true}
 use Rattle.decimal.specs.Input.{isSpace}
-use Rattle.decimal.specs.Scan.{ScanState, stands, slice, withDigitRead, scanByte, finish, wordsWithin, ended, Ends}
+use Rattle.decimal.specs.Scan.{ScanState, stands, slice, spaceRead, otherRead, scanByte}
 use Rattle.decimal.specs.declared.Scanner.{Scanner}
 use Rattle.decimal.specs.declared.Scanner.the-variants.{Failed, Between, Inside}
-use Rattle.decimal.specs.declared.Ended.{Ended}
-use Rattle.decimal.specs.declared.Ended.the-variants.{Words, NoWords}
 
 -- ---- The slice keeps its length
 
+space-keeps-length : (s : Scanner) (words : List ℕ) → length (slice (spaceRead s words)) ≡ length words
+space-keeps-length Failed words = refl
+space-keeps-length (Between count) words = refl
+space-keeps-length (Inside count value) words = go (ltb count (length words))
+  where
+    go : (room : Bool) → length (slice (cond room (stands (Between (count + 1)) (set words count value)) (stands Failed words))) ≡ length words
+    go true = length-set words count value
+    go false = refl
+
 byte-keeps-length : (s : ScanState) (b : ℕ) → length (slice (scanByte s b)) ≡ length (slice s)
 unfolding scanByte
-byte-keeps-length (stands Failed words) b = refl
-byte-keeps-length (stands (Between count) words) b = refl
-byte-keeps-length (stands (Inside count value) words) b = go (isSpace b) (ltb count (length words))
+byte-keeps-length (stands s words) b = go (isSpace b)
   where
-    go : (space room : Bool) → length (slice (cond space (cond room (stands (Between (count + 1)) (set words count value)) (stands Failed words)) (stands (withDigitRead count value b) words))) ≡ length words
-    go true true = length-set words count value
-    go true false = refl
-    go false room = refl
+    go : (space : Bool) → length (slice (cond space (spaceRead s words) (stands (otherRead s b) words))) ≡ length words
+    go true = space-keeps-length s words
+    go false = refl
 
 pub scan-keeps-length : (s : ScanState) (input : List ℕ) → length (slice (foldl scanByte s input)) ≡ length (slice s)
 scan-keeps-length s [] = refl
@@ -51,24 +53,3 @@ module _ {piece words : List ℕ} {start : ScanState} {s : Scanner} {i : ℕ} (f
 
   pub fed-length : length words ≡ length (slice start)
   fed-length = sym (scan-keeps-length (stands s words) (drop i piece)) ∙ ap (λ t. length (slice t)) (fed .rest) ∙ scan-keeps-length start piece
-
--- ---- The end
-
-abbrev pub wordCount : Ended → ℕ
-wordCount (Words count) = count
-wordCount NoWords = 0
-
-pub ends-within : {start : ScanState} {words : List ℕ} {r : Ended} → Ends start words r → wordCount r ≤ length words
-ends-within {start} {words} {r} ends = rw (ends .is, ends .words-are) (go (finish start))
-  where
-    within : (room count : ℕ) → wordCount (wordsWithin room count) ≤ room
-    within room count = so (leb count room) refl
-      where
-        so : (less : Bool) → leb count room ≡ less → wordCount (cond less (Words count) NoWords) ≤ room
-        so true e = leb-true count room e
-        so false e = omega arith
-
-    go : (s : ScanState) → wordCount (ended s) ≤ length (slice s)
-    go (stands Failed words) = omega arith
-    go (stands (Between count) words) = within (length words) count
-    go (stands (Inside count value) words) = within (length words) count

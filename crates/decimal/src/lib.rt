@@ -18,9 +18,3 @@ pub enum Scanner {
     // So many words are read, and the token under way has that value so far.
     Inside { count: usize, value: u32 },
 }
-
-// The words of a whole input: so many, or none.
-pub enum Ended {
-    Words(usize),
-    NoWords,
-}

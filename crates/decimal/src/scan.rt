@@ -1,10 +1,9 @@
 // The scan of an input, byte by byte. The words that are read stand at the beginning of a lent slice; one more than it has is a failure.
-use crate::Ended;
 use crate::Scanner;
 ghost use mathlib.Core.Path.{_≡_};
 ghost use mathlib.Core.List.{foldl};
 ghost use Rattle.decimal.specs.Input.{isSpace};
-ghost use Rattle.decimal.specs.Scan.{stands, withWord, withDigitRead, betweenTokens, insideToken, scanByte, wordsWithin, endedAt, Ends};
+ghost use Rattle.decimal.specs.Scan.{stands, withWord, inToken, otherRead, scanByte, finish};
 
 fn is_space(b: u8) -> bool
     ensures { λ r. ⌜ r ≡ isSpace b ⌝ }
@@ -19,8 +18,8 @@ fn is_space(b: u8) -> bool
 }
 
 // One more byte of a token whose value so far is that.
-fn digit(count: usize, value: u32, b: u8) -> Scanner
-    ensures { λ r. ⌜ r ≡ withDigitRead count value b ⌝ }
+fn in_token(count: usize, value: u32, b: u8) -> Scanner
+    ensures { λ r. ⌜ r ≡ inToken count value b ⌝ }
 {
     match b {
         48..=57 => {
@@ -38,6 +37,17 @@ fn digit(count: usize, value: u32, b: u8) -> Scanner
     }
 }
 
+// Any byte but white space.
+fn other(s: Scanner, b: u8) -> Scanner
+    ensures { λ r. ⌜ r ≡ otherRead s b ⌝ }
+{
+    match s {
+        Scanner::Failed => Scanner::Failed,
+        Scanner::Between(count) => in_token(count, 0, b),
+        Scanner::Inside { count, value } => in_token(count, value, b),
+    }
+}
+
 // One more word.
 fn word(count: usize, value: u32, words: &mut [u32]) -> Scanner
     ensures { λ r. ⌜ stands r (now (words .exit)) ≡ withWord count value (now (words .entry)) ⌝ }
@@ -49,33 +59,26 @@ fn word(count: usize, value: u32, words: &mut [u32]) -> Scanner
     Scanner::Between(count + 1)
 }
 
-fn between(count: usize, b: u8) -> Scanner
-    ensures { λ r. ⌜ r ≡ betweenTokens count b ⌝ }
+// The end of the input, which ends the token under way as white space does. The words of the whole input are then as many as the scanner
+// counts, or there are none.
+pub fn end(s: Scanner, words: &mut [u32]) -> Scanner
+    ensures { λ r. ⌜ stands r (now (words .exit)) ≡ finish (stands s (now (words .entry))) ⌝ }
 {
-    if is_space(b) {
-        return Scanner::Between(count);
+    match s {
+        Scanner::Failed => Scanner::Failed,
+        Scanner::Between(count) => Scanner::Between(count),
+        Scanner::Inside { count, value } => word(count, value, words),
     }
-    digit(count, 0, b)
-}
-
-fn inside(count: usize, value: u32, b: u8, words: &mut [u32]) -> Scanner
-    ensures { λ r. ⌜ stands r (now (words .exit)) ≡ insideToken count value b (now (words .entry)) ⌝ }
-{
-    if is_space(b) {
-        return word(count, value, words);
-    }
-    digit(count, value, b)
 }
 
 // One more byte of the input.
 fn step(s: Scanner, b: u8, words: &mut [u32]) -> Scanner
     ensures { λ r. ⌜ stands r (now (words .exit)) ≡ scanByte (stands s (now (words .entry))) b ⌝ }
 {
-    match s {
-        Scanner::Failed => Scanner::Failed,
-        Scanner::Between(count) => between(count, b),
-        Scanner::Inside { count, value } => inside(count, value, b, words),
+    if is_space(b) {
+        return end(s, words);
     }
+    other(s, b)
 }
 
 // More bytes of the input.
@@ -89,32 +92,4 @@ pub fn feed(s: Scanner, piece: &[u8], words: &mut [u32]) -> Scanner
         i += 1;
     }
     at
-}
-
-fn words_within(room: usize, count: usize) -> Ended
-    ensures { λ r. ⌜ r ≡ wordsWithin room count ⌝ }
-{
-    if count <= room {
-        Ended::Words(count)
-    } else {
-        Ended::NoWords
-    }
-}
-
-fn ended_at(room: usize, s: Scanner) -> Ended
-    ensures { λ r. ⌜ r ≡ endedAt room s ⌝ }
-{
-    match s {
-        Scanner::Failed => Ended::NoWords,
-        Scanner::Between(count) => words_within(room, count),
-        Scanner::Inside { count, value: _ } => words_within(room, count),
-    }
-}
-
-// The end of the input, which ends the token under way as white space does.
-pub fn end(s: Scanner, words: &mut [u32]) -> Ended
-    ensures { λ r. ⌜ Ends (stands s (now (words .entry))) (now (words .exit)) r ⌝ }
-{
-    let last = step(s, 32, words);
-    ended_at(words.len(), last)
 }

@@ -27,11 +27,8 @@ abbrev pub typeWords : Inferred → List ℕ → List ℕ
 typeWords (Typed count) out = take count out
 typeWords (NoType code place) out = []
 
-abbrev pub typeNumbers : Inferred → List ℕ → List (List ℕ)
-typeNumbers answer out = decimal (typeCode answer) ∷ decimal (placeOf answer) ∷ map decimal (typeWords answer out)
-
 abbrev pub typeLine : Inferred → List ℕ → List ℕ
-typeLine answer out = line typeText (typeNumbers answer out)
+typeLine answer out = line typeText (decimal (typeCode answer) ∷ decimal (placeOf answer) ∷ map decimal (typeWords answer out))
 
 -- ---- `run CODE PAYLOAD STEPS BINDINGS`
 

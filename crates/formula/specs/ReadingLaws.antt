@@ -1,7 +1,7 @@
 -- A read by its answer, and one read after the other.
 use Prim.Native.Nat.{ℕ, zero, suc, _+_, _-_, _≤_, _<_, min}
 use mathlib.Core.Path.{_≡_, refl, sym, _∙_, ap}
-use mathlib.Core.Bool.{Bool, true, false, cond}
+use mathlib.Core.Bool.{Bool, true, false, not, cond}
 use mathlib.Core.List.{List, [], _∷_, _++_, foldl, flatten, append-nil, append-assoc}
 use native.Mathlib.Omega.{arith}
 use native.Mathlib.Nat.{not-suc-le-zero}
@@ -16,18 +16,18 @@ use mir.Facts.{toZ-ofZ}
 use borrow.Author.Tests.{ltb-true, ltb-false, leb-true}
 use Rattle.io.specs.Counts.{clamped}
 use Rattle.libc.specs.Io.{Moved}
-use Rattle.decimal.specs.Scan.{ScanState, stands, slice, scanByte}
+use Rattle.decimal.specs.Scan.{ScanState, stands, slice, scanByte, hasFailed}
 use Rattle.decimal.specs.ScanIsWordsIn.{scan-in-pieces}
 use Rattle.decimal.specs.ScanLaws.{scan-keeps-length}
 use Rattle.decimal.specs.declared.Scanner.{Scanner}
 use Rattle.decimal.specs.declared.Scanner.the-variants.{Failed, Between, Inside}
 use Rattle.formula.specs.Reading.{NoneEmpty, no-piece, one-more, inputScanned, givenUp, afterReads, ReadingEnds, at-the-end, scan-failed, read-failed, turns-used-up}
-use Rattle.formula.specs.Turns.{afterRead, hasNotFailed, readsOn, hasTurn, PieceRead, InputRead}
+use Rattle.formula.specs.Turns.{afterRead, readsOn, hasTurn, PieceRead, InputRead}
 use Rattle.formula.specs.declared.read.Turn.{Turn}
 
 -- ---- What a read answered
 
-take-within : (n : ℕ) (bytes : List ℕ) → take (min n (length bytes)) bytes ≡ take n bytes
+pub take-within : (n : ℕ) (bytes : List ℕ) → take (min n (length bytes)) bytes ≡ take n bytes
 take-within n bytes = rw (← length-take n bytes) (take-the-length n bytes)
   where
     take-the-length : (n : ℕ) (bytes : List ℕ) → take (length (take n bytes)) bytes ≡ take n bytes
@@ -48,10 +48,10 @@ module _ {got : ℤ} (fits : SFits w64 got) where
       go (pos (suc n)) test = absurd (not-suc-le-zero (leb-true (suc n) 0 test))
       go (negsuc k) test = refl
 
-  pub further-read : (s : Scanner) → leZ (toZ w64 (ofZ w64 got)) (pos 0) ≡ false → hasNotFailed s ≡ readsOn got s
+  pub further-read : (s : Scanner) → leZ (toZ w64 (ofZ w64 got)) (pos 0) ≡ false → not (hasFailed s) ≡ readsOn got s
   further-read s test = go got (rw (toZ-ofZ fits) at test)
     where
-      go : (got : ℤ) → leZ got (pos 0) ≡ false → hasNotFailed s ≡ readsOn got s
+      go : (got : ℤ) → leZ got (pos 0) ≡ false → not (hasFailed s) ≡ readsOn got s
       go (pos zero) test = absurd (let z : _≡_ {A = ℕ} 0 1 = cc in omega arith)
       go (pos (suc n)) test = refl
       go (negsuc k) test = absurd (let z : _≡_ {A = ℕ} 0 1 = cc in omega arith)

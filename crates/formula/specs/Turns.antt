@@ -1,15 +1,14 @@
 -- What becomes of the bytes of one read, whatever it answers, and of all reads one after the other.
 use Prim.Native.Nat.{ℕ, zero, suc}
 use mathlib.Core.Path.{_≡_}
-use mathlib.Core.Bool.{Bool, true, false, cond}
+use mathlib.Core.Bool.{Bool, false, not, cond}
 use mathlib.Core.List.{List, foldl, flatten}
 use lib.Dec.{ltb}
 use lib.ListN.{length, take}
 use lib.IntN.{ℤ, pos, negsuc}
 use Rattle.libc.specs.Io.{Moved}
-use Rattle.decimal.specs.Scan.{ScanState, stands, scanByte}
+use Rattle.decimal.specs.Scan.{ScanState, stands, scanByte, hasFailed}
 use Rattle.decimal.specs.declared.Scanner.{Scanner}
-use Rattle.decimal.specs.declared.Scanner.the-variants.{Failed, Between, Inside}
 use Rattle.formula.specs.Reading.{givenUp, afterReads, Reads}
 use Rattle.formula.specs.declared.read.Turn.{Turn}
 
@@ -18,15 +17,10 @@ abbrev pub afterRead : ScanState → ℤ → List ℕ → ScanState
 afterRead start (pos n) piece = foldl scanByte start (take n piece)
 afterRead start (negsuc k) piece = givenUp start
 
-abbrev pub hasNotFailed : Scanner → Bool
-hasNotFailed Failed = false
-hasNotFailed (Between count) = true
-hasNotFailed (Inside count value) = true
-
 -- There is a further read exactly if some bytes came and the scan has not failed.
 abbrev pub readsOn : ℤ → Scanner → Bool
 readsOn (pos zero) s = false
-readsOn (pos (suc n)) s = hasNotFailed s
+readsOn (pos (suc n)) s = not (hasFailed s)
 readsOn (negsuc k) s = false
 
 -- And a turn is left.

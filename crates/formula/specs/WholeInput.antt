@@ -7,7 +7,7 @@ use mathlib.Core.List.{List, [], _∷_, _++_, foldl, flatten}
 use native.Mathlib.Omega.{arith}
 use lib.ListN.{length, take, replicate, length-append}
 use lib.IntN.{ℤ, pos, negsuc}
-use Rattle.decimal.specs.Scan.{ScanState, stands, scanByte, wordsFound}
+use Rattle.decimal.specs.Scan.{ScanState, stands, scanByte, finish, wordsAt}
 use Rattle.decimal.specs.ScanIsWordsIn.{failed-stays, scan-in-pieces}
 use Rattle.decimal.specs.declared.Scanner.the-variants.{Failed, Between, Inside}
 use Rattle.formula.specs.Lines.{inputLine}
@@ -64,5 +64,5 @@ answers-no-input answers = go (answers .responds .to (read ++ 0 ∷ []) leads)
     go : {text : List ℕ} → Prints (read ++ 0 ∷ []) text → text ≡ inputLine
     go (no-words found is) = is
     go (answered words-are two) =
-        let same = ap wordsFound (sym leads) ∙ input-words (read ++ 0 ∷ []) ∙ words-are in
+        let same = ap (λ s. wordsAt (finish s)) (sym leads) ∙ input-words (read ++ 0 ∷ []) ∙ words-are in
         absurd (let z : _≡_ {A = ℕ} 0 1 = cc in omega arith)

@@ -8,8 +8,8 @@ use libc::STDIN_FILENO;
 ghost use Prim.Native.Nat.{_≤_};
 ghost use mathlib.Core.Path.{_≡_};
 ghost use lib.ListN.{length, replicate};
-ghost use Rattle.decimal.specs.Scan.{stands};
-ghost use Rattle.formula.specs.Turns.{afterRead, hasNotFailed, readsOn, hasTurn, PieceRead, InputRead};
+ghost use Rattle.decimal.specs.Scan.{stands, hasFailed};
+ghost use Rattle.formula.specs.Turns.{afterRead, readsOn, hasTurn, PieceRead, InputRead};
 
 // What the last read answered, and where the scan stands after it.
 pub(crate) struct Turn {
@@ -17,13 +17,13 @@ pub(crate) struct Turn {
     pub(crate) at: Scanner,
 }
 
-fn has_not_failed(s: Scanner) -> bool
-    ensures { λ r. ⌜ r ≡ hasNotFailed s ⌝ }
+pub(crate) fn has_failed(s: Scanner) -> bool
+    ensures { λ r. ⌜ r ≡ hasFailed s ⌝ }
 {
     match s {
-        Scanner::Failed => false,
-        Scanner::Between(_) => true,
-        Scanner::Inside { count: _, value: _ } => true,
+        Scanner::Failed => true,
+        Scanner::Between(_) => false,
+        Scanner::Inside { count: _, value: _ } => false,
     }
 }
 
@@ -34,7 +34,7 @@ fn reads_on(got: isize, s: Scanner) -> bool
     if got <= 0 {
         return false;
     }
-    has_not_failed(s)
+    !has_failed(s)
 }
 
 fn has_turn(turn: Turn, turns: u64) -> bool

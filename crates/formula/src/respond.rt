@@ -1,12 +1,11 @@
 // The text that answers an input.
 use crate::lines;
-use decimal::Ended;
+use crate::read;
 use decimal::Scanner;
-ghost use Prim.Native.Nat.{_≤_};
+ghost use Prim.Native.Nat.{min};
 ghost use mathlib.Core.Path.{_≡_};
 ghost use lib.ListN.{length, replicate};
-ghost use Rattle.decimal.specs.Scan.{stands, found};
-ghost use Rattle.decimal.specs.ScanLaws.{wordCount};
+ghost use Rattle.decimal.specs.Scan.{stands, countOf, wordsAt};
 ghost use Rattle.formula.specs.Responding.{Responds};
 ghost use Rattle.formula.specs.ProgramLaws.{TypeLineIn, RunLineIn, TwoLinesIn, LinesFor};
 
@@ -51,15 +50,33 @@ fn two_lines(words: &[u32], text: &mut [u8]) -> usize
     run_line(words, text, next)
 }
 
-// The lines for what was found in an input: those of its table, or the one line `input`.
-fn lines_for(ended: Ended, words: &[u32], text: &mut [u8]) -> usize
-    requires { ⌜ (wordCount ended ≤ length (now words)) × (length (now text) ≡ 1024) ⌝ }
-    ensures { λ n. ⌜ LinesFor (found ended (now (words .entry))) (now (text .exit)) n ⌝ }
+// So many, or all that there are.
+fn within(n: usize, room: usize) -> usize
+    ensures { λ r. ⌜ r ≡ min n room ⌝ }
 {
-    match ended {
-        Ended::Words(count) => two_lines(&words[..count], text),
-        Ended::NoWords => decimal::bytes(b"input\n", text, 0),
+    if n < room { n } else { room }
+}
+
+fn count(s: Scanner) -> usize
+    ensures { λ r. ⌜ r ≡ countOf s ⌝ }
+{
+    match s {
+        Scanner::Failed => 0,
+        Scanner::Between(count) => count,
+        Scanner::Inside { count, value: _ } => count,
     }
+}
+
+// The lines for an input at whose end the scan stands there: those of its table, or the one line `input` if it has no words.
+fn lines_for(last: Scanner, words: &[u32], text: &mut [u8]) -> usize
+    requires { ⌜ length (now text) ≡ 1024 ⌝ }
+    ensures { λ n. ⌜ LinesFor (wordsAt (stands last (now (words .entry)))) (now (text .exit)) n ⌝ }
+{
+    if read::has_failed(last) {
+        return decimal::bytes(b"input\n", text, 0);
+    }
+    let n = within(count(last), words.len());
+    two_lines(&words[..n], text)
 }
 
 // The lines for an input whose scan stands there.
@@ -67,6 +84,6 @@ pub(crate) fn respond(s: Scanner, words: &mut [u32], text: &mut [u8]) -> usize
     requires { ⌜ length (now text) ≡ 1024 ⌝ }
     ensures { λ n. ⌜ Responds (stands s (now (words .entry))) (now (text .exit)) n ⌝ }
 {
-    let ended = decimal::end(s, words);
-    lines_for(ended, words, text)
+    let last = decimal::end(s, words);
+    lines_for(last, words, text)
 }

@@ -2,7 +2,6 @@
 use borrow.Author.Needs.{needs}
 use lib.Seq.{length-take-le}
 use mathlib.Core.Path.{sym}
-use borrow.Author.Needs.{needs}
 use Rattle.formula.proofs.print.Statement.{statement}
 use Rattle.formula.proofs.print.Tie as tie
 

@@ -1,24 +1,43 @@
 -- `decimal::scan::end` meets its contract.
-use Rattle.decimal.specs.Scan.{slice, ended}
-use borrow.Author.Needs.{needs}
-use mathlib.Core.Path.{_∙_, ap}
 use borrow.Author.Needs.{needs}
 use Rattle.decimal.proofs.scan.end.Statement.{statement}
 use Rattle.decimal.proofs.scan.end.Tie as tie
 
-step-requires : tie.Need-step-requires
-step-requires c κs = search needs
+enum-told : tie.Need-enum-told
+enum-told c = search needs
 
-ended-at-requires : tie.Need-ended-at-requires
-ended-at-requires c κs = search needs
+enum-known-s : tie.Need-enum-known-s
+enum-known-s c = search needs
+
+enum-known-s-2 : tie.Need-enum-known-s-2
+enum-known-s-2 c = search needs
+
+word-requires : tie.Need-word-requires
+word-requires c κs = search needs
+
+returns : tie.Need-returns
+returns c = rw (c .enum-told .given .1)
+
+returns-2 : tie.Need-returns-2
+returns-2 c = rw (c .before .s .given .1)
 
 same-length : tie.Need-same-length
 same-length c = search needs
 
-returns : tie.Need-returns
-returns c =
-    let stepped = c .before .before .before .step .ensures in
-    record { words-are = ap slice stepped; is = c .ended-at .ensures ∙ ap ended stepped }
+returns-3 : tie.Need-returns-3
+returns-3 c =
+    let matched = c .before .before .before .before .before in
+    rw (matched .s2 .given .1) (c .before .before .word .ensures)
 
 pub end-spec : {M : Type 1} → statement M
-end-spec = tie.close (tie.spec step-requires ended-at-requires same-length returns)
+end-spec =
+    tie.close
+    (tie.spec
+    enum-told
+    enum-known-s
+    enum-known-s-2
+    word-requires
+    returns
+    returns-2
+    same-length
+    returns-3)

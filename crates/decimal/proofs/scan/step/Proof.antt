@@ -1,52 +1,33 @@
 -- `decimal::scan::step` meets its contract.
 use Rattle.decimal.specs.Scan.{scanByte}
 use borrow.Author.Needs.{needs}
-use borrow.Author.Needs.{needs}
+use mathlib.Core.Path.{sym, _∙_}
 use Rattle.decimal.proofs.scan.step.Statement.{statement}
 use Rattle.decimal.proofs.scan.step.Tie as tie
 
-enum-told : tie.Need-enum-told
-enum-told c = search needs
+is-space-requires : tie.Need-is-space-requires
+is-space-requires c κs = search needs
 
-enum-known-s : tie.Need-enum-known-s
-enum-known-s c = search needs
-
-between-requires : tie.Need-between-requires
-between-requires c κs = search needs
-
-enum-known-s-2 : tie.Need-enum-known-s-2
-enum-known-s-2 c = search needs
-
-inside-requires : tie.Need-inside-requires
-inside-requires c κs = search needs
-
-returns : tie.Need-returns
-unfolding scanByte
-returns c = rw (c .enum-told .given .1)
-
-returns-2 : tie.Need-returns-2
-unfolding scanByte
-returns-2 c = rw (c .before .before .s .given .1, c .between .ensures)
+end-requires : tie.Need-end-requires
+end-requires c κs = search needs
 
 same-length : tie.Need-same-length
 same-length c = search needs
 
-returns-3 : tie.Need-returns-3
+returns : tie.Need-returns
 unfolding scanByte
-returns-3 c =
-    let matched = c .before .before .before .before .before in
-    rw (matched .s2 .given .1) (c .before .before .inside .ensures)
+returns c =
+    let tested = c .before .before .before .before in
+    rw (sym (tested .before .is-space .ensures) ∙ tested .if1 .taken) (c .before .before .end .ensures)
+
+other-requires : tie.Need-other-requires
+other-requires c κs = search needs
+
+returns-2 : tie.Need-returns-2
+unfolding scanByte
+returns-2 c = rw (sym (c .before .before .is-space .ensures) ∙ c .before .if1 .left, c .other .ensures)
 
 pub step-spec : {M : Type 1} → statement M
 step-spec =
     tie.close
-    (tie.spec
-    enum-told
-    enum-known-s
-    between-requires
-    enum-known-s-2
-    inside-requires
-    returns
-    returns-2
-    same-length
-    returns-3)
+    (tie.spec is-space-requires end-requires same-length returns other-requires returns-2)

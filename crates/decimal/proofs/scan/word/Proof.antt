@@ -1,7 +1,6 @@
 -- `decimal::scan::word` meets its contract.
 use borrow.Author.Needs.{needs}
 use borrow.Author.Tests.{lt-ltb, le-ltb}
-use borrow.Author.Needs.{needs}
 use Rattle.decimal.proofs.scan.word.Statement.{statement}
 use Rattle.decimal.proofs.scan.word.Tie as tie
 

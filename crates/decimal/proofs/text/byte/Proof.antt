@@ -1,7 +1,6 @@
 -- `decimal::text::byte` meets its contract.
 use Rattle.lent.specs.WrittenLaws.{written-past}
 use borrow.Author.Needs.{needs}
-use borrow.Author.Needs.{needs}
 use Rattle.decimal.proofs.text.byte.Statement.{statement}
 use Rattle.decimal.proofs.text.byte.Tie as tie
 

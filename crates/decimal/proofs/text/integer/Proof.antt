@@ -1,7 +1,6 @@
 -- `decimal::text::integer` meets its contract.
 use Rattle.decimal.specs.TextLaws.{plain-written, negative-written}
 use borrow.Author.Needs.{needs}
-use borrow.Author.Needs.{needs}
 use Rattle.decimal.proofs.text.integer.Statement.{statement}
 use Rattle.decimal.proofs.text.integer.Tie as tie
 

@@ -1,7 +1,6 @@
 -- `decimal::text::spaced_number` meets its contract.
 use Rattle.decimal.specs.TextLaws.{after-byte}
 use borrow.Author.Needs.{needs}
-use borrow.Author.Needs.{needs}
 use Rattle.decimal.proofs.text.spaced_number.Statement.{statement}
 use Rattle.decimal.proofs.text.spaced_number.Tie as tie
 

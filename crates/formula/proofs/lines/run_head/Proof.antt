@@ -1,7 +1,6 @@
 -- `formula::lines::run_head` meets its contract.
 use Rattle.formula.specs.LineLaws.{run-numbers}
 use borrow.Author.Needs.{needs}
-use borrow.Author.Needs.{needs}
 use Rattle.formula.proofs.lines.run_head.Statement.{statement}
 use Rattle.formula.proofs.lines.run_head.Tie as tie
 

@@ -3,7 +3,6 @@ use Rattle.formula.specs.LineLaws.{line-goes-on}
 use Rattle.formula.specs.Lines.{runText}
 use Rattle.lent.specs.WrittenLaws.{within-itself, within-then}
 use borrow.Author.Needs.{needs}
-use borrow.Author.Needs.{needs}
 use Rattle.formula.proofs.lines.run_line.Statement.{statement}
 use Rattle.formula.proofs.lines.run_line.Tie as tie
 

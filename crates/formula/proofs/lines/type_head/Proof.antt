@@ -1,7 +1,6 @@
 -- `formula::lines::type_head` meets its contract.
 use Rattle.lent.specs.WrittenLaws.{within-itself, within-then}
 use borrow.Author.Needs.{needs}
-use borrow.Author.Needs.{needs}
 use Rattle.formula.proofs.lines.type_head.Statement.{statement}
 use Rattle.formula.proofs.lines.type_head.Tie as tie
 
@@ -10,6 +9,12 @@ slice-aggregate-bytes c = search needs
 
 bytes-requires : tie.Need-bytes-requires
 bytes-requires c κs = search needs
+
+code-requires : tie.Need-code-requires
+code-requires c κs = search needs
+
+place-requires : tie.Need-place-requires
+place-requires c κs = search needs
 
 slice-aggregate-numbers : tie.Need-slice-aggregate-numbers
 slice-aggregate-numbers c = search needs
@@ -23,8 +28,10 @@ same-length c = search needs
 returns : tie.Need-returns
 returns c =
     let written = c .before .before in
-    let named = written .before .before .before .before .before in
-    within-then (within-itself (named .bytes .ensures)) (written .numbers2 .ensures)
+    let placed = written .before .before .before in
+    let named = placed .before .before .before .before in
+    let numbers = rw (placed .before .code .ensures, placed .place .ensures) at (written .numbers2 .ensures) in
+    within-then (within-itself (named .bytes .ensures)) numbers
 
 pub type-head-spec : {M : Type 1} → statement M
 type-head-spec =
@@ -32,6 +39,8 @@ type-head-spec =
     (tie.spec
     slice-aggregate-bytes
     bytes-requires
+    code-requires
+    place-requires
     slice-aggregate-numbers
     numbers-requires
     same-length

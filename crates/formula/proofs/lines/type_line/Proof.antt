@@ -1,12 +1,25 @@
 -- `formula::lines::type_line` meets its contract.
-use Rattle.lent.specs.WrittenLaws.{within-itself, within-then}
+use Rattle.formula.specs.LineLaws.{type-line-written}
 use borrow.Author.Needs.{needs}
-use borrow.Author.Needs.{needs}
+use lib.Seq.{length-take-le}
+use mathlib.Core.Path.{sym}
+use native.Mathlib.Omega.{arith}
 use Rattle.formula.proofs.lines.type_line.Statement.{statement}
 use Rattle.formula.proofs.lines.type_line.Tie as tie
 
-type-parts-requires : tie.Need-type-parts-requires
-type-parts-requires c κs = search needs
+type-head-requires : tie.Need-type-head-requires
+type-head-requires c κs = search needs
+
+words-shown-requires : tie.Need-words-shown-requires
+words-shown-requires c κs = search needs
+
+slice-aggregate-numbers : tie.Need-slice-aggregate-numbers
+slice-aggregate-numbers c =
+    let shown = c .before in
+    sym (length-take-le _ _ (omega (arith, shown .words-shown .ensures)))
+
+numbers-requires : tie.Need-numbers-requires
+numbers-requires c κs = search needs
 
 slice-aggregate-bytes : tie.Need-slice-aggregate-bytes
 slice-aggregate-bytes c = search needs
@@ -21,9 +34,21 @@ returns : tie.Need-returns
 returns c =
     let ended = c .before .before in
     let written = ended .before .before .before .before .before in
-    within-then (written .type-parts .ensures) (within-itself (ended .bytes .ensures))
+    let shown = written .before .before .before in
+    let headed = shown .before .before .before in
+    let start = headed .before .before .before .before in
+    let words = rw (shown .words-shown .ensures) at (written .numbers .ensures) in
+    type-line-written (start .args .inferred) (start .args .out .now) (start .pre .0) (start .pre .1) (headed .type-head .ensures) words (ended .bytes .ensures)
 
 pub type-line-spec : {M : Type 1} → statement M
 type-line-spec =
     tie.close
-    (tie.spec type-parts-requires slice-aggregate-bytes bytes-requires same-length returns)
+    (tie.spec
+    type-head-requires
+    words-shown-requires
+    slice-aggregate-numbers
+    numbers-requires
+    slice-aggregate-bytes
+    bytes-requires
+    same-length
+    returns)

@@ -2,7 +2,6 @@
 use Rattle.formula.specs.ReadingLaws.{by-its-bits}
 use borrow.Author.Needs.{needs}
 use borrow.Author.Tests.{lt-ltb, le-ltb}
-use borrow.Author.Needs.{needs}
 use Rattle.formula.proofs.read.has_turn.Statement.{statement}
 use Rattle.formula.proofs.read.has_turn.Tie as tie
 

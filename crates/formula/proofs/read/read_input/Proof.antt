@@ -35,11 +35,7 @@ sub-turns c =
     omega (arith, turn-left (turn .turn) (turn .turns) (sym (tested .before .has-turn .ensures) ∙ tested .if1 .taken))
 
 loop-less : tie.Need-loop-less Inv-loop μ-loop
-loop-less c =
-    let read = c .before .before .before .before in
-    let tested = read .before .before .before in
-    let turn = tested .before .before .loop in
-    omega (arith, turn-left (turn .turn) (turn .turns) (sym (tested .before .has-turn .ensures) ∙ tested .if1 .taken))
+loop-less c = omega (arith, sub-turns c)
 
 loop-again : tie.Need-loop-again Inv-loop μ-loop
 loop-again c =

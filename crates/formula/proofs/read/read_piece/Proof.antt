@@ -1,7 +1,6 @@
 -- `formula::read::read_piece` meets its contract.
 use Rattle.formula.specs.ReadingLaws.{by-its-bits}
 use borrow.Author.Needs.{needs}
-use borrow.Author.Needs.{needs}
 use Rattle.formula.proofs.read.read_piece.Statement.{statement}
 use Rattle.formula.proofs.read.read_piece.Tie as tie
 

@@ -2,7 +2,6 @@
 use Rattle.formula.specs.ReadingLaws.{failed-read, bytes-came}
 use borrow.Author.Needs.{needs}
 use mathlib.Core.Path.{_∙_}
-use borrow.Author.Needs.{needs}
 use Rattle.formula.proofs.read.take_in.Statement.{statement}
 use Rattle.formula.proofs.read.take_in.Tie as tie
 

@@ -1,25 +1,14 @@
 -- `formula::respond::lines_for` meets its contract.
-use Rattle.formula.specs.ProgramLaws.{table-lines, input-line-fits}
+use Rattle.formula.specs.ProgramLaws.{table-lines-fit, input-line-fits}
 use borrow.Author.Needs.{needs}
 use lib.Seq.{length-take-le}
-use mathlib.Core.Path.{refl, sym}
-use borrow.Author.Needs.{needs}
+use mathlib.Core.Path.{sym, _∙_}
+use native.Mathlib.Omega.{arith}
 use Rattle.formula.proofs.respond.lines_for.Statement.{statement}
 use Rattle.formula.proofs.respond.lines_for.Tie as tie
 
-enum-known-ended : tie.Need-enum-known-ended
-enum-known-ended c = search needs
-
-slice-aggregate-two-lines : tie.Need-slice-aggregate-two-lines
-slice-aggregate-two-lines c =
-    let matched = c .before .before in
-    sym (length-take-le _ _ (rw (matched .ended .given .1) at (matched .before .before .before .before .pre .0)))
-
-two-lines-requires : tie.Need-two-lines-requires
-two-lines-requires c κs = search needs
-
-enum-told : tie.Need-enum-told
-enum-told c = search needs
+has-failed-requires : tie.Need-has-failed-requires
+has-failed-requires c κs = search needs
 
 slice-aggregate-bytes : tie.Need-slice-aggregate-bytes
 slice-aggregate-bytes c = search needs
@@ -33,8 +22,21 @@ same-length c = search needs
 returns : tie.Need-returns
 returns c =
     let written = c .before .before in
-    let matched = written .before .before .before .before in
-    rw (matched .ended .given .1) (table-lines refl (written .two-lines .ensures))
+    let tested = written .before .before .before in
+    let start = tested .before .before .before .before in
+    rw (sym (tested .before .has-failed .ensures) ∙ tested .if1 .taken) (input-line-fits (start .pre) (written .bytes .ensures))
+
+count-requires : tie.Need-count-requires
+count-requires c κs = search needs
+
+within-requires : tie.Need-within-requires
+within-requires c κs = search needs
+
+slice-aggregate-two-lines : tie.Need-slice-aggregate-two-lines
+slice-aggregate-two-lines c = sym (length-take-le _ _ (omega (arith, c .before .within .ensures)))
+
+two-lines-requires : tie.Need-two-lines-requires
+two-lines-requires c κs = search needs
 
 same-length-2 : tie.Need-same-length-2
 same-length-2 c = search needs
@@ -42,20 +44,24 @@ same-length-2 c = search needs
 returns-2 : tie.Need-returns-2
 returns-2 c =
     let written = c .before .before in
-    let told = written .before .before .before in
-    rw (told .enum-told .given .1) (input-line-fits (told .before .before .before .before .pre .1) (written .bytes .ensures))
+    let counted = written .before .before .before in
+    let tested = counted .before .before in
+    let start = tested .before .before .before .before in
+    rw (sym (tested .before .has-failed .ensures) ∙ tested .if1 .left)
+    (table-lines-fit (start .args .words .now) _ (counted .before .count .ensures) (counted .within .ensures) (written .two-lines .ensures))
 
 pub lines-for-spec : {M : Type 1} → statement M
 lines-for-spec =
     tie.close
     (tie.spec
-    enum-known-ended
-    slice-aggregate-two-lines
-    two-lines-requires
-    enum-told
+    has-failed-requires
     slice-aggregate-bytes
     bytes-requires
     same-length
     returns
+    count-requires
+    within-requires
+    slice-aggregate-two-lines
+    two-lines-requires
     same-length-2
     returns-2)

@@ -1,7 +1,5 @@
 -- `formula::respond::respond` meets its contract.
-use Rattle.decimal.specs.ScanLaws.{ends-within}
 use Rattle.formula.specs.ProgramLaws.{responds}
-use borrow.Author.Needs.{needs}
 use borrow.Author.Needs.{needs}
 use Rattle.formula.proofs.respond.respond.Statement.{statement}
 use Rattle.formula.proofs.respond.respond.Tie as tie
@@ -10,9 +8,7 @@ end-requires : tie.Need-end-requires
 end-requires c κs = search needs
 
 lines-for-requires : tie.Need-lines-for-requires
-lines-for-requires c κs =
-    let ended = c .before .before .before .before in
-    (ends-within (ended .end .ensures), ended .before .before .before .before .pre)
+lines-for-requires c κs = search needs
 
 same-length : tie.Need-same-length
 same-length c = search needs

@@ -1,6 +1,5 @@
 -- `formula::respond::run_line` meets its contract.
 use borrow.Author.Needs.{needs}
-use borrow.Author.Needs.{needs}
 use Rattle.formula.proofs.respond.run_line.Statement.{statement}
 use Rattle.formula.proofs.respond.run_line.Tie as tie
 

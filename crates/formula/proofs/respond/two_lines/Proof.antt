@@ -1,7 +1,6 @@
 -- `formula::respond::two_lines` meets its contract.
 use Rattle.formula.specs.ProgramLaws.{two-lines-fit}
 use borrow.Author.Needs.{needs}
-use borrow.Author.Needs.{needs}
 use Rattle.formula.proofs.respond.two_lines.Statement.{statement}
 use Rattle.formula.proofs.respond.two_lines.Tie as tie
 

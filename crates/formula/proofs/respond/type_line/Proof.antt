@@ -1,8 +1,7 @@
 -- `formula::respond::type_line` meets its contract.
 use Rattle.formula.specs.ProgramLaws.{type-fits}
 use borrow.Author.Needs.{needs}
-use mathlib.Core.Path.{refl}
-use borrow.Author.Needs.{needs}
+use native.Mathlib.Omega.{arith}
 use Rattle.formula.proofs.respond.type_line.Statement.{statement}
 use Rattle.formula.proofs.respond.type_line.Tie as tie
 
@@ -24,7 +23,8 @@ slice-aggregate-type-line c = search needs
 type-line-requires : tie.Need-type-line-requires
 type-line-requires c κs =
     let inferred = c .before .before .before .before in
-    type-fits (inferred .infer .ensures) refl (inferred .infer .kept .1 .1 .0)
+    let kept = inferred .infer .kept .1 .1 .0 in
+    omega (arith, kept, type-fits (inferred .infer .ensures))
 
 same-length : tie.Need-same-length
 same-length c = search needs

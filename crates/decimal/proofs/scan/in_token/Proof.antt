@@ -1,9 +1,8 @@
--- `decimal::scan::digit` meets its contract.
+-- `decimal::scan::in_token` meets its contract.
 use borrow.Author.Needs.{needs}
 use borrow.Author.Tests.{lt-ltb, le-ltb, le-leb, lt-leb}
-use borrow.Author.Needs.{needs}
-use Rattle.decimal.proofs.scan.digit.Statement.{statement}
-use Rattle.decimal.proofs.scan.digit.Tie as tie
+use Rattle.decimal.proofs.scan.in_token.Statement.{statement}
+use Rattle.decimal.proofs.scan.in_token.Tie as tie
 
 mul-next : tie.Need-mul-next
 mul-next c = search needs
@@ -29,6 +28,6 @@ returns-3 c = simp (lt-leb 48 _ (c .if1 .taken))
 returns-4 : tie.Need-returns-4
 returns-4 c = simp (le-leb 48 _ (c .before .if1 .left), le-ltb _ 58 (c .if2 .left))
 
-pub digit-spec : {M : Type 1} → statement M
-digit-spec =
+pub in-token-spec : {M : Type 1} → statement M
+in-token-spec =
     tie.close (tie.spec mul-next cast-next add-next cast-t13 returns returns-2 returns-3 returns-4)
