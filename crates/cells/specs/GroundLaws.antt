@@ -9,14 +9,14 @@ use native.Mathlib.Omega.{arith}
 use lib.ListN.{length, getD, List·getD-eq-default}
 use Rattle.language.specs.Ty.{unit, bool, int, _⇒_, var, Subst}
 use Rattle.language.specs.Count.{count, count-changed, count-bound, count-all, count-none, count-some}
+use Rattle.cells.specs.Grounding.{Unmarked, noMark, unmarked, Waits, Evaluates, Marking, LeansOrEvaluates, Settled, UnmarkedBelow, Progress}
+use Rattle.cells.specs.Interface.{GroundedOrNone, GroundTested}
 use Rattle.cells.specs.Cells.{Cell, free, link, unit-cell, bool-cell, int-cell, arrow-cell, Sat, ev-free, ev-link, ev-unit, ev-bool, ev-int, ev-arrow}
 use Rattle.cells.specs.CellSteps.{tag}
 use Rattle.cells.specs.Grounded.{ungrounded-has-none, Leans, on-link, on-left, on-right}
 use Rattle.cells.specs.Layout.{cellAt, pairAt, storeOf, cellsIn, Sound, SameCells, noPair}
 use Rattle.cells.specs.StoreLaws.{same-cells, same-then, same-beside, same-store, sound-beside, says-tag, says-free, says-link, says-arrow, parts-inside, links-fall}
-use Rattle.cells.specs.Grounding.{noMark, unmarked, Waits, Evaluates, Marking, LeansOrEvaluates, Settled, UnmarkedBelow, Progress}
 use Rattle.cells.specs.Puts.{PairPut}
-use Rattle.cells.specs.Interface.{GroundTested}
 use Rattle.cells.specs.declared.TypeCell.{TypeCell}
 
 -- ---- What a cell leans on
@@ -141,6 +141,19 @@ unmark-more {after} {i} u put =
     clear j h (yes e) = rw e (put .there)
     clear j h (no n) = put .others j n ∙ u .clear j (omega arith)
 
+-- Words past the end read as 0.
+past-the-end : (mem : List ℕ) (n : ℕ) → length mem ≡ 5 * n → (k : ℕ) → 5 * n ≤ k → getD mem k 0 ≡ 0
+past-the-end mem n whole k h = List·getD-eq-default mem 0 (omega arith)
+
+pub all-unmarked : {before after : List ℕ} {n : ℕ} → length before ≡ 5 * n → UnmarkedBelow before after n → Unmarked after
+all-unmarked {after = after} {n} whole u = record { sound = u .sound; clear = λ i. go i (decLt i n) }
+  where
+    go : (i : ℕ) → Dec (i < n) → pairAt after i ≡ noPair
+    go i (yes h) = u .clear i h
+    go i (no h) =
+        let whole′ = u .same .same-length ∙ whole in
+        rw (past-the-end after n whole′ (5 * i + 3) (omega arith), past-the-end after n whole′ (5 * i + 4) (omega arith)) refl
+
 -- ---- Passes
 
 -- So many cells are still unmarked.
@@ -148,9 +161,6 @@ pub record Sweeping (before mem : List ℕ) (left : ℕ) : Type 0 where
   pub same : SameCells before mem
   pub marking : Marking mem
   pub counted : count (unmarked mem) (cellsIn mem) ≡ left
-
-pub sweep-since : {before start mem : List ℕ} {left : ℕ} → SameCells before start → Sweeping start mem left → Sweeping before mem left
-sweep-since same s = record { same = same-then same (s .same); marking = s .marking; counted = s .counted }
 
 pub sweep-on : {D : ℕ → Type 0} {before mem after : List ℕ} {left new : ℕ} → Sweeping before mem left → Progress D mem after new → Sweeping before after (left - new)
 sweep-on {after} {left} {new} s p = record { same = same-then (s .same) (p .same); marking = p .marking; counted = fewer }
@@ -162,40 +172,20 @@ sweep-on {after} {left} {new} s p = record { same = same-then (s .same) (p .same
         rw (p .same .same-length) (omega arith)
 
 module _ {before : List ℕ} (n : ℕ) (whole : length before ≡ 5 * n) where
-  word-past-the-end : {mem : List ℕ} → SameCells before mem → (k : ℕ) → 5 * n ≤ k → getD mem k 0 ≡ 0
-  word-past-the-end {mem} s k h =
-      let same-length = s .same-length in
-      List·getD-eq-default mem 0 (omega arith)
-
-  pub sweep-starts : {mem : List ℕ} → UnmarkedBelow before mem n → Sweeping mem mem n
-  sweep-starts {mem} u = record { same = same-cells; marking = marking; counted = all }
+  pub sweep-starts : Unmarked before → Sweeping before before n
+  sweep-starts u = record { same = same-cells; marking = marking; counted = count-all (unmarked before) (cellsIn before) (λ i h. none-marked i) ∙ omega arith }
     where
-      clear : (i : ℕ) → pairAt mem i ≡ noPair
-      clear i = go (decLt i n)
-        where
-          go : Dec (i < n) → pairAt mem i ≡ noPair
-          go (yes h) = u .clear i h
-          go (no h) = rw (word-past-the-end (u .same) (5 * i + 3) (omega arith), word-past-the-end (u .same) (5 * i + 4) (omega arith)) refl
+      none-marked : (i : ℕ) → unmarked before i ≡ true
+      none-marked i = ap noMark (u .clear i)
 
-      none-marked : (i : ℕ) → unmarked mem i ≡ true
-      none-marked i = ap noMark (clear i)
-
-      marking : Marking mem
+      marking : Marking before
       marking =
-          record { ready = record { sound = u .sound; none = λ i. ap (λ q. q .right) (clear i) }; evaluates = λ i marked. absurd (never (sym (none-marked i) ∙ marked)) }
-
-      all : count (unmarked mem) (cellsIn mem) ≡ n
-      all =
-          let same-length = u .same .same-length in
-          count-all (unmarked mem) (cellsIn mem) (λ i h. none-marked i) ∙ omega arith
+          record { ready = record { sound = u .sound; none = λ i. ap (λ q. q .right) (u .clear i) }; evaluates = λ i marked. absurd (never (sym (none-marked i) ∙ marked)) }
 
   pub sweep-stuck : {mem after : List ℕ} {left new : ℕ} → Sweeping before mem left → 0 < left → Progress (λ i. i < n) mem after new → new ≡ 0 → GroundTested before after false
   sweep-stuck {mem} {after} s some p no-new =
-      record { same = same; ready = p .marking .ready; says = λ ρ sat. none (subst (Sat ρ) (sym (same-store (s .same))) sat) }
+      record { same = same-then (s .same) (p .same); ready = p .marking .ready; says = λ ρ sat. none (subst (Sat ρ) (sym (same-store (s .same))) sat) }
     where
-      same : SameCells before after
-      same = same-then (s .same) (p .same)
-
       stuck : (i : ℕ) → Waits mem i → Leans (storeOf mem) (Waits mem) i
       stuck i (inside, waits) =
           let same-length = s .same .same-length in
@@ -217,7 +207,8 @@ module _ {before : List ℕ} (n : ℕ) (whole : length before ≡ 5 * n) where
           go (yes h) =
               let same-length = s .same .same-length in
               s .marking .evaluates i (count-none (unmarked mem) (cellsIn mem) (s .counted ∙ none-left) i (omega arith))
-          go (no h) = (var i, ev-free (says-free mem i refl (word-past-the-end (s .same) (5 * i) (omega arith))))
+          go (no h) = (var i, ev-free (says-free mem i refl (past-the-end mem n (s .same .same-length ∙ whole) (5 * i) (omega arith))))
 
-pub ground-tested-is : {before after : List ℕ} {ok ok′ : Bool} → GroundTested before after ok → ok ≡ ok′ → GroundTested before after ok′
-ground-tested-is {before} {after} g e = subst (GroundTested before after) e g
+-- What was tested after a change of marks was tested before it.
+pub tested-since : {before start after : List ℕ} {ok : Bool} → SameCells before start → GroundTested start after ok → GroundTested before after ok
+tested-since {ok = ok} same g = record { same = same-then same (g .same); ready = g .ready; says = subst (λ σ. GroundedOrNone σ ok) (same-store same) (g .says) }

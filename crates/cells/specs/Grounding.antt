@@ -50,6 +50,11 @@ pub record UnmarkedBelow (before after : List ℕ) (n : ℕ) : Type 0 where
   pub sound : Sound after
   pub clear : (i : ℕ) → i < n → pairAt after i ≡ noPair
 
+-- Nothing stands beside any cell.
+pub record Unmarked (mem : List ℕ) : Type 0 where
+  pub sound : Sound mem
+  pub clear : (i : ℕ) → pairAt mem i ≡ noPair
+
 -- So many cells were marked. If none, then nothing was written, and the cells of D are settled.
 pub record Progress (D : ℕ → Type 0) (before after : List ℕ) (new : ℕ) : Type 0 where
   pub same : SameCells before after

@@ -37,8 +37,9 @@ pub record Allowed (n i : ℕ) (c : TypeCell) : Type 0 where
   pub link-down : c .tag ≡ 1 → c .a < i
   pub parts-inside : c .tag ≡ 5 → (c .a < n) × (c .b < n)
 
--- There are so few cells that no sum of their numbers can wrap.
+-- The words are those of whole cells, so few that no sum of their numbers can wrap.
 pub record Sound (mem : List ℕ) : Type 0 where
+  pub whole : length mem ≡ 5 * cellsIn mem
   pub small : cellsIn mem ≤ 4096
   pub allowed : (i : ℕ) → Allowed (cellsIn mem) i (cellAt mem i)
 

@@ -9,7 +9,9 @@ use lib.ListN.{length}
 use Rattle.language.specs.Ty.{Subst}
 use Rattle.language.specs.Count.{count}
 use Rattle.cells.specs.Cells.{Sat}
+use Rattle.cells.specs.Interface.{Sayable}
 use Rattle.cells.specs.Layout.{cellAt, pairAt, storeOf, cellsIn, Sound}
+use Rattle.cells.specs.declared.TypeCell.{TypeCell}
 use Rattle.cells.specs.declared.solve.Encounter.{Encounter}
 use Rattle.cells.specs.declared.solve.Encounter.the-variants.{Clash, Done, Parts}
 
@@ -27,10 +29,20 @@ pub record Shortened (before after : List ℕ) (i r : ℕ) : Type 0 where
   pub sound : Sound after
   pub keeps : (ρ : Subst) → Sat ρ (storeOf before) ↔ Sat ρ (storeOf after)
   pub equal : (ρ : Subst) → Sat ρ (storeOf after) → ρ i ≡ ρ r
-  pub below : r ≤ i
+  pub inside : r < cellsIn after
   pub same-links : linksIn after ≡ linksIn before
   pub pairs : (k : ℕ) → pairAt after k ≡ pairAt before k
   pub roots : (k : ℕ) → cellAt before k .tag ≢ 1 → cellAt after k ≡ cellAt before k
+
+-- A cell that is no link.
+pub record IsRoot (mem : List ℕ) (r : ℕ) : Type 0 where
+  pub inside : r < cellsIn mem
+  pub no-link : cellAt mem r .tag ≢ 1
+
+-- The whole way to the root.
+pub record Rooted (before after : List ℕ) (i r : ℕ) : Type 0 where
+  pub way : Shortened before after i r
+  pub root : IsRoot after r
 
 -- ---- Pending pairs
 
@@ -42,19 +54,32 @@ pub record Pending (ρ : Subst) (mem : List ℕ) (n : ℕ) : Type 0 where
 abbrev pub AllEqual : List ℕ → ℕ → ℕ → ℕ → Subst → Type 0
 AllEqual mem i j n ρ = (ρ i ≡ ρ j) × Pending ρ mem n
 
--- They are cells of the slice.
+-- The parts of an arrow are cells of the slice,
+pub record PartsInside (mem : List ℕ) (c : TypeCell) : Type 0 where
+  pub left : c .a < cellsIn mem
+  pub right : c .b < cellsIn mem
+
+-- and so are the first n pairs.
 pub record PairsInside (mem : List ℕ) (n : ℕ) : Type 0 where
   pub at : (k : ℕ) → k < n → (pairAt mem k .left < cellsIn mem) × (pairAt mem k .right < cellsIn mem)
 
+-- ---- A root is told what it is
+
+pub record SayReady (mem : List ℕ) (r : ℕ) (c : TypeCell) : Type 0 where
+  pub sound : Sound mem
+  pub root : IsRoot mem r
+  pub sayable : Sayable (cellsIn mem) c
+
 -- ---- Two cells meet
 
--- Two roots, the smaller first.
-pub record TwoRoots (mem : List ℕ) (i j : ℕ) : Type 0 where
+-- Two roots, the smaller first, and what they say.
+pub record TwoRoots (mem : List ℕ) (i j : ℕ) (low high : TypeCell) : Type 0 where
   pub sound : Sound mem
   pub less : i < j
-  pub inside : j < cellsIn mem
-  pub low-root : cellAt mem i .tag ≢ 1
-  pub high-root : cellAt mem j .tag ≢ 1
+  pub low-root : IsRoot mem i
+  pub high-root : IsRoot mem j
+  pub low-is : low ≡ cellAt mem i
+  pub high-is : high ≡ cellAt mem j
 
 -- They have been made equal, with a demand left over; no pair has changed.
 pub record Joined (before after : List ℕ) (i j : ℕ) (rest : Subst → Type 0) : Type 0 where

@@ -102,8 +102,9 @@ new-allowed h (suc (suc (suc zero))) = sayable-allowed (arrow-sayable (omega ari
 new-allowed h (suc (suc (suc (suc i)))) = record { tag-known = omega arith; link-down = λ e. absurd (omega arith); parts-inside = λ e. absurd (omega arith) }
 
 module _ {before after : List ℕ} (s : Started before after) where
-  pub started-sound : 3 < cellsIn before → cellsIn before ≤ 4096 → Sound after
-  started-sound enough few = record {
+  pub started-sound : length before ≡ 5 * cellsIn before → 3 < cellsIn before → cellsIn before ≤ 4096 → Sound after
+  started-sound whole enough few = record {
+    whole = rw (s .same-length) whole;
     small = rw (s .same-length) few;
     allowed = λ i. rw (s .same-length) (subst (Allowed (cellsIn before) i) (sym (s .cells i)) (new-allowed enough i));
   }

@@ -28,7 +28,7 @@ unfolding storeOf
 store-put p = record { there = ap cellOf (p .there); others = λ j n. ap cellOf (p .others j n) }
 
 pub sound-put : {before after : List ℕ} {i : ℕ} {c : TypeCell} → Sound before → CellPut before after i c → Allowed (cellsIn before) i c → Sound after
-sound-put {before} {after} {i} s p w = record { small = rw (p .same-length) (s .small); allowed = λ j. rw (p .same-length) (each j (ℕ-discrete j i)) }
+sound-put {before} {after} {i} s p w = record { whole = rw (p .same-length) (s .whole); small = rw (p .same-length) (s .small); allowed = λ j. rw (p .same-length) (each j (ℕ-discrete j i)) }
   where
     each : (j : ℕ) → Dec (j ≡ i) → Allowed (cellsIn before) j (cellAt after j)
     each j (yes e) = rw e (subst (Allowed (cellsIn before) i) (sym (p .there)) w)
@@ -60,7 +60,7 @@ unfolding storeOf
 same-store s = fun-ext (λ i. ap cellOf (s .cells i))
 
 pub sound-same : {before after : List ℕ} → Sound before → SameCells before after → Sound after
-sound-same {before} s p = record { small = rw (p .same-length) (s .small); allowed = λ j. rw (p .same-length) (subst (Allowed (cellsIn before) j) (sym (p .cells j)) (s .allowed j)) }
+sound-same {before} s p = record { whole = rw (p .same-length) (s .whole); small = rw (p .same-length) (s .small); allowed = λ j. rw (p .same-length) (subst (Allowed (cellsIn before) j) (sym (p .cells j)) (s .allowed j)) }
 
 pub store-beside : {before after : List ℕ} {i : ℕ} {q : Pair} → PairPut before after i q → storeOf after ≡ storeOf before
 store-beside p = same-store (same-beside p)

@@ -1,13 +1,13 @@
 // Does every type cell evaluate, without a cycle through arrows? Cells are marked as soon as all that they lean on is marked.
 use crate::memory::Pair;
 use crate::memory::get;
-use crate::memory::get_pair;
 use crate::memory::put_pair;
 ghost use Prim.Native.Nat.{_*_, _<_};
 ghost use mathlib.Core.Path.{_≡_};
 ghost use lib.ListN.{length};
 ghost use Rattle.cells.specs.Layout.{cellsIn, Sound};
-ghost use Rattle.cells.specs.Grounding.{unmarked, UnmarkedBelow, Marking, LeansOrEvaluates, Progress};
+ghost use Rattle.cells.specs.Interface.{GroundTested};
+ghost use Rattle.cells.specs.Grounding.{unmarked, UnmarkedBelow, Unmarked, Marking, LeansOrEvaluates, Progress};
 
 pub(crate) fn unmark(cells: &mut [u32], n: u32)
     requires { ⌜ Sound (now cells) × (length (now cells) ≡ 5 * n) ⌝ }
@@ -24,7 +24,7 @@ fn is_unmarked(cells: &[u32], i: u32) -> bool
     requires { ⌜ i < cellsIn (now cells) ⌝ }
     ensures { λ r. ⌜ r ≡ unmarked (now (cells .entry)) i ⌝ }
 {
-    get_pair(cells, i).left == 0
+    cells[5 * (i as usize) + 3] == 0
 }
 
 // Does cell i lean on an unmarked cell?
@@ -61,7 +61,7 @@ fn visit(cells: &mut [u32], i: u32) -> u32
 }
 
 // Visits every cell. Upwards and downwards at once: a chain of cells is marked in one pass, whichever way it leads.
-pub(crate) fn pass(cells: &mut [u32], n: u32) -> u32
+fn pass(cells: &mut [u32], n: u32) -> u32
     requires { ⌜ Marking (now cells) × (length (now cells) ≡ 5 * n) ⌝ }
     ensures { λ new. ⌜ Progress (λ j. j < n) (now (cells .entry)) (now (cells .exit)) new ⌝ }
 {
@@ -74,4 +74,20 @@ pub(crate) fn pass(cells: &mut [u32], n: u32) -> u32
         i += 1;
     }
     new
+}
+
+// Passes until no cell is left, or until a pass marks none.
+pub(crate) fn sweep(cells: &mut [u32], n: u32) -> bool
+    requires { ⌜ Unmarked (now cells) × (length (now cells) ≡ 5 * n) ⌝ }
+    ensures { λ ok. ⌜ GroundTested (now (cells .entry)) (now (cells .exit)) ok ⌝ }
+{
+    let mut left = n;
+    while 0 < left {
+        let new = pass(cells, n);
+        if new == 0 {
+            return false;
+        }
+        left -= new;
+    }
+    true
 }

@@ -5,18 +5,15 @@ mod memory;
 mod solve;
 mod write;
 
-use crate::ground::pass;
+use crate::ground::sweep;
 use crate::ground::unmark;
-use crate::memory::Pair;
-use crate::memory::get;
 use crate::memory::put;
-use crate::memory::put_pair;
 use crate::solve::find;
+use crate::solve::say_root;
 use crate::solve::solve;
 use crate::write::measure;
-ghost use Prim.Native.Nat.{_*_, _≤_, _<_};
+ghost use Prim.Native.Nat.{_<_};
 ghost use mathlib.Core.Path.{_≡_};
-ghost use lib.ListN.{length};
 ghost use Rattle.cells.specs.Cells.{Fits};
 ghost use Rattle.cells.specs.Layout.{cellOf, cellsIn, Sound};
 ghost use Rattle.cells.specs.Interface.{Started, Sayable, Outcome, GroundTested, Unnumbered, CellWritten};
@@ -39,7 +36,7 @@ pub enum Written {
 
 // All cells are new: 0 to 3 are bool, int, int → int and int → bool, and of the others nothing is known.
 pub fn start(cells: &mut [u32])
-    requires { ⌜ (3 < cellsIn (now cells)) × (cellsIn (now cells) ≤ 4096) ⌝ }
+    requires { ⌜ 3 < cellsIn (now cells) ⌝ }
     ensures { λ r. ⌜ Started (now (cells .entry)) (now (cells .exit)) ⌝ }
 {
     lent::clear(cells);
@@ -55,26 +52,7 @@ pub fn say(cells: &mut [u32], i: u32, c: TypeCell) -> bool
     ensures { λ ok. ⌜ Outcome (now (cells .entry)) (now (cells .exit)) (λ ρ. Fits ρ i (cellOf c)) ok ⌝ }
 {
     let r = find(cells, i);
-    let root = get(cells, r);
-    if root.tag == 0 {
-        put(cells, r, c);
-        return true;
-    }
-    if root.tag != c.tag {
-        return false;
-    }
-    if root.tag != 5 {
-        return true;
-    }
-    put_pair(
-        cells,
-        0,
-        Pair {
-            left: root.b,
-            right: c.b,
-        },
-    );
-    solve(cells, root.a, c.a, 1)
+    say_root(cells, r, c)
 }
 
 // Cells i and j have the same type, or false is answered.
@@ -86,20 +64,13 @@ pub fn join(cells: &mut [u32], i: u32, j: u32) -> bool
 }
 
 // Does every cell have a type, or must one contain itself?
-pub fn grounded(cells: &mut [u32], n: u32) -> bool
-    requires { ⌜ Sound (now cells) × (length (now cells) ≡ 5 * n) ⌝ }
+pub fn grounded(cells: &mut [u32]) -> bool
+    requires { ⌜ Sound (now cells) ⌝ }
     ensures { λ ok. ⌜ GroundTested (now (cells .entry)) (now (cells .exit)) ok ⌝ }
 {
+    let n = (cells.len() / 5) as u32;
     unmark(cells, n);
-    let mut left = n;
-    while 0 < left {
-        let new = pass(cells, n);
-        if new == 0 {
-            return false;
-        }
-        left -= new;
-    }
-    true
+    sweep(cells, n)
 }
 
 // The type of cell i at the beginning of `out`, if it fits. Its room is one word more than `out`, so that a type that fits leaves some.

@@ -29,7 +29,7 @@ fn types(words: &[u32], n: u32, cells: &mut [u32]) -> bool
 {
     cells::start(cells);
     if rules::nodes(words, cells, n) {
-        return cells::grounded(cells, 2 * n + 4);
+        return cells::grounded(cells);
     }
     false
 }

@@ -4,7 +4,7 @@ use cells::TypeCell;
 use cells::join;
 use cells::say;
 use table::Bound;
-ghost use Prim.Native.Nat.{_≤_, _<_};
+ghost use Prim.Native.Nat.{_<_};
 ghost use mathlib.Core.Path.{_≡_};
 ghost use Rattle.language.specs.Ty.{bool, _⇒_};
 ghost use Rattle.cells.specs.Cells.{Fits};
@@ -17,14 +17,6 @@ fn gives_cell(o: u32) -> u32
     ensures { λ r. ⌜ r ≡ givesCell o ⌝ }
 {
     if o < 5 { 2 } else { 3 }
-}
-
-// Cell i is an arrow from cell a to cell b.
-fn say_arrow(cells: &mut [u32], i: u32, a: u32, b: u32) -> bool
-    requires { ⌜ Sound (now cells) × (i < cellsIn (now cells)) × (a < cellsIn (now cells)) × (b < cellsIn (now cells)) ⌝ }
-    ensures { λ ok. ⌜ Outcome (now (cells .entry)) (now (cells .exit)) (λ ρ. ρ i ≡ ρ a ⇒ ρ b) ok ⌝ }
-{
-    say(cells, i, TypeCell { tag: 5, a: a, b: b })
 }
 
 // Two equations between cells.
@@ -59,7 +51,15 @@ fn operator(cells: &mut [u32], k: u32, o: u32) -> bool
     requires { ⌜ Sound (now cells) × HasNode (now cells) k ⌝ }
     ensures { λ ok. ⌜ Outcome (now (cells .entry)) (now (cells .exit)) (λ ρ. ρ (typeCell k) ≡ ρ 1 ⇒ ρ (givesCell o)) ok ⌝ }
 {
-    say_arrow(cells, 2 * k + 4, 1, gives_cell(o))
+    say(
+        cells,
+        2 * k + 4,
+        TypeCell {
+            tag: 5,
+            a: 1,
+            b: gives_cell(o),
+        },
+    )
 }
 
 // A name has the type that its binder gives it.
@@ -87,15 +87,15 @@ fn application(cells: &mut [u32], k: u32, l: u32, r: u32) -> bool
     requires { ⌜ Sound (now cells) × HasNode (now cells) k × HasNode (now cells) l × HasNode (now cells) r ⌝ }
     ensures { λ ok. ⌜ Outcome (now (cells .entry)) (now (cells .exit)) (λ ρ. ρ (typeCell l) ≡ ρ (typeCell r) ⇒ ρ (typeCell k)) ok ⌝ }
 {
-    say_arrow(cells, 2 * l + 4, 2 * r + 4, 2 * k + 4)
-}
-
-// Both branches have the type of the whole.
-fn branches(cells: &mut [u32], k: u32, e1: u32, e2: u32) -> bool
-    requires { ⌜ Sound (now cells) × HasNode (now cells) k × HasNode (now cells) e1 × HasNode (now cells) e2 ⌝ }
-    ensures { λ ok. ⌜ Outcome (now (cells .entry)) (now (cells .exit)) (λ ρ. (ρ (typeCell k) ≡ ρ (typeCell e1)) × (ρ (typeCell k) ≡ ρ (typeCell e2))) ok ⌝ }
-{
-    both(cells, 2 * k + 4, 2 * e1 + 4, 2 * k + 4, 2 * e2 + 4)
+    say(
+        cells,
+        2 * l + 4,
+        TypeCell {
+            tag: 5,
+            a: 2 * r + 4,
+            b: 2 * k + 4,
+        },
+    )
 }
 
 // (COND): the condition is a bool, and both branches have the type of the whole.
@@ -104,7 +104,7 @@ fn condition(cells: &mut [u32], k: u32, e0: u32, e1: u32, e2: u32) -> bool
     ensures { λ ok. ⌜ Outcome (now (cells .entry)) (now (cells .exit)) (λ ρ. (ρ (typeCell e0) ≡ bool) × ((ρ (typeCell k) ≡ ρ (typeCell e1)) × (ρ (typeCell k) ≡ ρ (typeCell e2)))) ok ⌝ }
 {
     if constant(cells, e0, 3) {
-        return branches(cells, k, e1, e2);
+        return both(cells, 2 * k + 4, 2 * e1 + 4, 2 * k + 4, 2 * e2 + 4);
     }
     false
 }
@@ -114,7 +114,15 @@ fn lambda(cells: &mut [u32], k: u32, body: u32) -> bool
     requires { ⌜ Sound (now cells) × HasNode (now cells) k × HasNode (now cells) body ⌝ }
     ensures { λ ok. ⌜ Outcome (now (cells .entry)) (now (cells .exit)) (λ ρ. ρ (typeCell k) ≡ ρ (nameCell k) ⇒ ρ (typeCell body)) ok ⌝ }
 {
-    say_arrow(cells, 2 * k + 4, 2 * k + 1 + 4, 2 * body + 4)
+    say(
+        cells,
+        2 * k + 4,
+        TypeCell {
+            tag: 5,
+            a: 2 * k + 1 + 4,
+            b: 2 * body + 4,
+        },
+    )
 }
 
 // (LET): the body's type, and the name has the bound expression's.

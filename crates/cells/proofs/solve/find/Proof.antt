@@ -1,6 +1,6 @@
 -- `cells::solve::find` meets its contract. The loop's invariant: the way from the cell has been shortened as far as the current one.
 use mathlib.Core.Path.{_∙_, ap}
-use Rattle.cells.specs.Paths.{nothing-shortened, way-inside, one-further, past-below, link-past}
+use Rattle.cells.specs.Paths.{nothing-shortened, at-root, one-further, past-below, link-past}
 use Rattle.cells.specs.declared.TypeCell.{TypeCell}
 use Rattle.cells.specs.Solving.{Shortened}
 use Rattle.cells.proofs.solve.find.Statement.{statement}
@@ -13,34 +13,56 @@ abbrev μ-loop : tie.MeasureT-loop
 μ-loop cells₀ i at₀ cells at = at
 
 loop-holds : tie.Need-loop-holds Inv-loop μ-loop
-loop-holds c = nothing-shortened (c .before .args .i) (c .before .pre .0)
+loop-holds c = nothing-shortened (c .before .pre .0) (c .before .pre .1)
 
 get-requires : tie.Need-get-requires Inv-loop μ-loop
-get-requires c κs = way-inside (c .before .loop .inv) (c .before .before .before .pre .1)
+get-requires c κs = c .before .loop .inv .inside
 
 same-length : tie.Need-same-length Inv-loop μ-loop
 same-length c = c .before .before .before .loop .inv .same-length
 
 returns : tie.Need-returns Inv-loop μ-loop
-returns c = (c .before .before .before .loop .inv, λ e. c .if1 .taken (ap (λ (x : TypeCell). x .tag) (c .before .get .ensures) ∙ e))
+returns c =
+    let got = c .before in
+    at-root (got .before .before .loop .inv) (got .get .ensures) (c .if1 .taken)
 
 get-requires-2 : tie.Need-get-requires-2 Inv-loop μ-loop
-get-requires-2 c κs = way-inside (one-further (c .before .before .before .before .loop .inv) (c .before .before .get .ensures) (c .before .if1 .left)) (c .before .before .before .before .before .before .pre .1)
+get-requires-2 c κs =
+    let got = c .before .before in
+    one-further (got .before .before .loop .inv) (got .get .ensures) (c .before .if1 .left) .inside
 
 same-length-2 : tie.Need-same-length-2 Inv-loop μ-loop
-same-length-2 c = c .before .before .before .before .before .before .loop .inv .same-length
+same-length-2 c =
+    let got = c .before .before .before .before in
+    got .before .before .loop .inv .same-length
 
 returns-2 : tie.Need-returns-2 Inv-loop μ-loop
-returns-2 c = (one-further (c .before .before .before .before .before .before .loop .inv) (c .before .before .before .before .get .ensures) (c .before .before .before .if1 .left), λ e. c .if2 .taken (ap (λ (x : TypeCell). x .tag) (c .before .get2 .ensures) ∙ e))
+returns-2 c =
+    let linked = c .before .before .before in
+    let got = linked .before in
+    at-root (one-further (got .before .before .loop .inv) (got .get .ensures) (linked .if1 .left)) (c .before .get2 .ensures) (c .if2 .taken)
 
 put-requires : tie.Need-put-requires Inv-loop μ-loop
-put-requires c κs = way-inside (c .before .before .before .before .before .before .before .loop .inv) (c .before .before .before .before .before .before .before .before .before .pre .1)
+put-requires c κs =
+    let got = c .before .before .before .before .before in
+    got .before .before .loop .inv .inside
 
 loop-less : tie.Need-loop-less Inv-loop μ-loop
-loop-less c = past-below (c .before .before .before .before .before .before .before .before .before .before .loop .inv) (c .before .before .before .before .before .before .before .before .get .ensures) (c .before .before .before .before .before .before .before .if1 .left) (c .before .before .before .before .before .get2 .ensures) (c .before .before .before .before .if2 .left) (c .before .before .put .ensures)
+loop-less c =
+    let past = c .before .before .before .before in
+    let next = past .before in
+    let linked = next .before .before in
+    let got = linked .before in
+    past-below (got .before .before .loop .inv) (got .get .ensures) (linked .if1 .left) (next .get2 .ensures) (past .if2 .left)
 
 loop-again : tie.Need-loop-again Inv-loop μ-loop
-loop-again c = link-past (c .before .before .before .before .before .before .before .before .before .before .loop .inv) (c .before .before .before .before .before .before .before .before .get .ensures) (c .before .before .before .before .before .before .before .if1 .left) (c .before .before .before .before .before .get2 .ensures) (c .before .before .before .before .if2 .left) (c .before .before .put .ensures)
+loop-again c =
+    let put = c .before .before in
+    let past = put .before .before in
+    let next = past .before in
+    let linked = next .before .before in
+    let got = linked .before in
+    link-past (got .before .before .loop .inv) (got .get .ensures) (linked .if1 .left) (next .get2 .ensures) (past .if2 .left) (put .put .ensures)
 
 pub find-spec : {M : Type 1} → statement M
 find-spec =
