@@ -1,7 +1,7 @@
 -- `cells::grounded` meets its contract: marks are cleared, and then cells are marked.
 use native.Mathlib.Omega.{arith}
-use Rattle.cells.specs.GroundLaws.{all-unmarked, tested-since}
 use borrow.Author.Needs.{needs}
+use Rattle.cells.specs.GroundLaws.{all-unmarked, tested-since}
 use Rattle.cells.proofs.grounded.Statement.{statement}
 use Rattle.cells.proofs.grounded.Tie as tie
 

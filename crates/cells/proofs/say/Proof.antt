@@ -1,6 +1,6 @@
 -- `cells::say` meets its contract: what is said of a cell is said of its root.
-use Rattle.cells.specs.Saying.{root-ready, said-of-root}
 use borrow.Author.Needs.{needs}
+use Rattle.cells.specs.Saying.{root-ready, said-of-root}
 use Rattle.cells.proofs.say.Statement.{statement}
 use Rattle.cells.proofs.say.Tie as tie
 

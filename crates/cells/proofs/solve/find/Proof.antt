@@ -1,7 +1,5 @@
 -- `cells::solve::find` meets its contract. The loop's invariant: the way from the cell has been shortened as far as the current one.
-use mathlib.Core.Path.{_∙_, ap}
 use Rattle.cells.specs.Paths.{nothing-shortened, at-root, one-further, past-below, link-past}
-use Rattle.cells.specs.declared.TypeCell.{TypeCell}
 use Rattle.cells.specs.Solving.{Shortened}
 use Rattle.cells.proofs.solve.find.Statement.{statement}
 use Rattle.cells.proofs.solve.find.Tie as tie

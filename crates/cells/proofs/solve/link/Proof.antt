@@ -1,6 +1,6 @@
 -- `cells::solve::link` meets its contract.
-use Rattle.cells.specs.Meetings.{copied-meeting, free-meeting, base-meeting, arrow-meeting, clash-meeting}
 use borrow.Author.Needs.{needs}
+use Rattle.cells.specs.Meetings.{copied-meeting, free-meeting, base-meeting, arrow-meeting, clash-meeting}
 use Rattle.cells.proofs.solve.link.Statement.{statement}
 use Rattle.cells.proofs.solve.link.Tie as tie
 

@@ -1,6 +1,6 @@
 -- `cells::solve::meet_roots` meets its contract.
-use Rattle.cells.specs.Meetings.{self-meeting, meeting-turned}
 use borrow.Author.Needs.{needs}
+use Rattle.cells.specs.Meetings.{self-meeting, meeting-turned}
 use Rattle.cells.proofs.solve.meet_roots.Statement.{statement}
 use Rattle.cells.proofs.solve.meet_roots.Tie as tie
 

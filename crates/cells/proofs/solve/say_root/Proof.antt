@@ -1,6 +1,6 @@
 -- `cells::solve::say_root` meets its contract.
-use Rattle.cells.specs.Saying.{said-of-free, said-otherwise, said-again, arrows-ready, said-of-arrow}
 use borrow.Author.Needs.{needs}
+use Rattle.cells.specs.Saying.{said-of-free, said-otherwise, said-again, arrows-ready, said-of-arrow}
 use Rattle.cells.proofs.solve.say_root.Statement.{statement}
 use Rattle.cells.proofs.solve.say_root.Tie as tie
 

@@ -8,53 +8,54 @@ use Rattle.cells.proofs.write.variable.Tie as tie
 get-pair-requires : tie.Need-get-pair-requires
 get-pair-requires c κs = search needs
 
-add-t8 : tie.Need-add-t8
-add-t8 c =
-    let a = c .before .before .before .before .before .before .args in
-    let pre = c .before .before .before .before .before .before .pre in
-    rw (c .before .before .before .get-pair .ensures) (omega (arith, few-numbered (pre .0), pre .0 .small (a .r)))
+add-t10 : tie.Need-add-t10
+add-t10 c =
+    let got = c .before in
+    let start = got .before .before .before in
+    let ready = start .pre .0 in
+    rw (got .get-pair .ensures) (omega (arith, few-numbered ready, ready .small (start .args .r)))
 
 same-length : tie.Need-same-length
 same-length c = search needs
 
 returns : tie.Need-returns
 returns c =
-    let pre = c .before .before .before .before .before .before .pre in
-    let at-r = c .before .before .before .get-pair .ensures in
-    rw at-r (old-spelled (pre .0) (pre .2) (rw at-r at (c .before .if1 .taken)))
+    let got = c .before in
+    let (ready, inside, free) = got .before .before .before .pre in
+    rw (got .get-pair .ensures) (old-spelled ready free (rw (got .get-pair .ensures) at (c .if1 .taken)))
 
-add-t12 : tie.Need-add-t12
-add-t12 c = omega (arith, few-numbered (c .before .before .before .before .before .before .pre .0))
+add-next : tie.Need-add-next
+add-next c = omega (arith, few-numbered (c .before .before .before .before .pre .0))
 
 put-pair-requires : tie.Need-put-pair-requires
 put-pair-requires c κs = search needs
 
-add-t12-2 : tie.Need-add-t12-2
-add-t12-2 c = omega (arith, few-numbered (c .before .before .before .before .before .before .before .before .before .pre .0))
-
-add-t14 : tie.Need-add-t14
-add-t14 c = omega (arith, few-numbered (c .before .before .before .before .before .before .before .before .before .pre .0))
+add-t15 : tie.Need-add-t15
+add-t15 c =
+    let got = c .before .before .before .before .before in
+    omega (arith, few-numbered (got .before .before .before .pre .0))
 
 same-length-2 : tie.Need-same-length-2
 same-length-2 c = search needs
 
 returns-2 : tie.Need-returns-2
 returns-2 c =
-    let pre = c .before .before .before .before .before .before .before .before .before .pre in
-    let at-r = c .before .before .before .before .before .before .get-pair .ensures in
-    new-spelled (pre .0) (pre .2) (pre .1) (rw at-r at (c .before .before .before .before .if1 .left)) (c .before .before .put-pair .ensures)
+    let put = c .before .before in
+    let none = put .before .before in
+    let got = none .before in
+    let (ready, inside, free) = got .before .before .before .pre in
+    new-spelled ready free inside (rw (got .get-pair .ensures) at (none .if1 .left)) (put .put-pair .ensures)
 
 pub variable-spec : {M : Type 1} → statement M
 variable-spec =
     tie.close
     (tie.spec
     get-pair-requires
-    add-t8
+    add-t10
     same-length
     returns
-    add-t12
+    add-next
     put-pair-requires
-    add-t12-2
-    add-t14
+    add-t15
     same-length-2
     returns-2)
