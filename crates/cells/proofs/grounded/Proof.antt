@@ -23,7 +23,8 @@ same-length c = search needs
 returns : tie.Need-returns
 returns c =
     let swept = c .before .before in
-    tested-since (swept .before .before .before .before .unmark .ensures .same) (swept .sweep .ensures)
+    let cleared = swept .before .before .before .before in
+    tested-since (cleared .unmark .ensures .same) (swept .sweep .ensures)
 
 pub grounded-spec : {M : Type 1} → statement M
 grounded-spec = tie.close (tie.spec cast-n unmark-requires sweep-requires same-length returns)

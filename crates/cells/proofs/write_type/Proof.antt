@@ -17,7 +17,9 @@ same-length : tie.Need-same-length
 same-length c = search needs
 
 returns : tie.Need-returns
-returns c = none-written (c .before .before .before .before .before .args .out .now) (c .if1 .taken) (c .before .measure .ensures)
+returns c =
+    let start = c .before .before .before .before .before in
+    none-written (start .args .out .now) (c .if1 .taken) (c .before .measure .ensures)
 
 sub-count : tie.Need-sub-count
 sub-count c = search needs
@@ -26,13 +28,17 @@ slice-relend-prefix-write : tie.Need-slice-relend-prefix-write
 slice-relend-prefix-write c = search needs
 
 slice-aggregate-write : tie.Need-slice-aggregate-write
-slice-aggregate-write c = sym (length-take-le _ (c .before .before .before .before .before .before .before .args .out .now) (omega arith))
+slice-aggregate-write c =
+    let measured = c .before .before .before in
+    let start = measured .before .before .before .before in
+    sym (length-take-le _ (start .args .out .now) (omega arith))
 
 write-requires : tie.Need-write-requires
 write-requires c κs =
-    let pre = c .before .before .before .before .before .before .before .pre in
+    let measured = c .before .before .before in
+    let (unnumbered, inside) = measured .before .before .before .before .pre in
     let room = slice-aggregate-write c in
-    (ready-at-first (pre .0), pre .1, omega arith)
+    (ready-at-first unnumbered, inside, omega arith)
 
 same-length-2 : tie.Need-same-length-2
 same-length-2 c = search needs
