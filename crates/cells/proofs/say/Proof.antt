@@ -8,9 +8,7 @@ find-requires : tie.Need-find-requires
 find-requires c κs = search needs
 
 say-root-requires : tie.Need-say-root-requires
-say-root-requires c κs =
-    let found = c .before .before .before in
-    root-ready (found .find .ensures) (found .before .before .before .pre .2)
+say-root-requires c κs = let found = c .before .before .before in root-ready (found .find .ensures) (found .before .before .before .pre .2)
 
 same-length : tie.Need-same-length
 same-length c = search needs

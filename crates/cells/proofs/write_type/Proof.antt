@@ -58,14 +58,5 @@ pub write-type-spec : {M : Type 1} → statement M
 write-type-spec =
     tie.close
     (tie.spec
-    add-room
-    measure-requires
-    same-length
-    returns
-    sub-count
-    slice-relend-prefix-write
-    slice-aggregate-write
-    write-requires
-    same-length-2
-    same-length-3
-    returns-2)
+    add-room measure-requires same-length returns sub-count slice-relend-prefix-write slice-aggregate-write
+    write-requires same-length-2 same-length-3 returns-2)

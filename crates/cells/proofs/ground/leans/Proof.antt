@@ -12,14 +12,10 @@ is-unmarked-requires : tie.Need-is-unmarked-requires
 is-unmarked-requires c κs = link-inside (c .before .before .before .pre) (c .before .get .ensures) (c .if1 .taken)
 
 returns : tie.Need-returns
-returns c =
-    let got = c .before .before in
-    link-leans (got .before .before .pre) (got .get .ensures) (c .before .if1 .taken) (c .is-unmarked .ensures)
+returns c = let got = c .before .before in link-leans (got .before .before .pre) (got .get .ensures) (c .before .if1 .taken) (c .is-unmarked .ensures)
 
 is-unmarked-requires-2 : tie.Need-is-unmarked-requires-2
-is-unmarked-requires-2 c κs =
-    let got = c .before .before in
-    arrow-inside (got .before .before .pre) (got .get .ensures) (c .if2 .taken) .0
+is-unmarked-requires-2 c κs = let got = c .before .before in arrow-inside (got .before .before .pre) (got .get .ensures) (c .if2 .taken) .0
 
 returns-2 : tie.Need-returns-2
 returns-2 c =
@@ -42,19 +38,11 @@ returns-3 c =
     arrow-leans-right (got .before .before .pre) (got .get .ensures) (arrow .if2 .taken) marked (c .is-unmarked3 .ensures)
 
 returns-4 : tie.Need-returns-4
-returns-4 c =
-    let got = c .before .before in
-    other-evaluates (got .before .before .pre) (got .get .ensures) (c .before .if1 .left) (c .if2 .left)
+returns-4 c = let got = c .before .before in other-evaluates (got .before .before .pre) (got .get .ensures) (c .before .if1 .left) (c .if2 .left)
 
 pub leans-spec : {M : Type 1} → statement M
 leans-spec =
     tie.close
     (tie.spec
-    get-requires
-    is-unmarked-requires
-    returns
-    is-unmarked-requires-2
-    returns-2
-    is-unmarked-requires-3
-    returns-3
+    get-requires is-unmarked-requires returns is-unmarked-requires-2 returns-2 is-unmarked-requires-3 returns-3
     returns-4)

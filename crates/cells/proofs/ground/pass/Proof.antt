@@ -64,17 +64,5 @@ pub pass-spec : {M : Type 1} → statement M
 pass-spec =
     tie.close
     (tie.spec
-    Inv-loop
-    μ-loop
-    loop-holds
-    visit-requires
-    sub-visit
-    sub-visit-2
-    visit-requires-2
-    add-new
-    add-new-2
-    add-i
-    loop-less
-    loop-again
-    same-length
-    returns)
+    Inv-loop μ-loop loop-holds visit-requires sub-visit sub-visit-2 visit-requires-2 add-new add-new-2 add-i loop-less
+    loop-again same-length returns)

@@ -26,9 +26,7 @@ loop-less : tie.Need-loop-less Inv-loop μ-loop
 loop-less c = omega arith
 
 loop-again : tie.Need-loop-again Inv-loop μ-loop
-loop-again c =
-    let put = c .before .before in
-    (omega arith, unmark-more (put .before .before .before .loop .inv .1) (put .put-pair .ensures))
+loop-again c = let put = c .before .before in (omega arith, unmark-more (put .before .before .before .loop .inv .1) (put .put-pair .ensures))
 
 same-length : tie.Need-same-length Inv-loop μ-loop
 same-length c = c .before .loop .inv .1 .same .same-length
@@ -43,12 +41,4 @@ pub unmark-spec : {M : Type 1} → statement M
 unmark-spec =
     tie.close
     (tie.spec
-    Inv-loop
-    μ-loop
-    loop-holds
-    put-pair-requires
-    add-i
-    loop-less
-    loop-again
-    same-length
-    returns)
+    Inv-loop μ-loop loop-holds put-pair-requires add-i loop-less loop-again same-length returns)

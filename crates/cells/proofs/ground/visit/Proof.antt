@@ -45,12 +45,5 @@ pub visit-spec : {M : Type 1} → statement M
 visit-spec =
     tie.close
     (tie.spec
-    is-unmarked-requires
-    same-length
-    returns
-    leans-requires
-    same-length-2
-    returns-2
-    put-pair-requires
-    same-length-3
+    is-unmarked-requires same-length returns leans-requires same-length-2 returns-2 put-pair-requires same-length-3
     returns-3)

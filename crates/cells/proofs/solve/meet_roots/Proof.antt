@@ -29,10 +29,4 @@ pub meet-roots-spec : {M : Type 1} → statement M
 meet-roots-spec =
     tie.close
     (tie.spec
-    returns
-    merge-requires
-    same-length
-    returns-2
-    merge-requires-2
-    same-length-2
-    returns-3)
+    returns merge-requires same-length returns-2 merge-requires-2 same-length-2 returns-3)

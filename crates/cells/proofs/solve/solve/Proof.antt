@@ -11,22 +11,16 @@ abbrev μ-loop : tie.MeasureT-loop
 μ-loop cells₀ i j pending a₀ b₀ left₀ cells a b left = work cells left
 
 loop-holds : tie.Need-loop-holds Inv-loop μ-loop
-loop-holds c =
-    let (sound, i-inside, j-inside, inside, few) = c .before .pre in
-    solving-starts sound i-inside j-inside inside few
+loop-holds c = let (sound, i-inside, j-inside, inside, few) = c .before .pre in solving-starts sound i-inside j-inside inside few
 
 meet-requires : tie.Need-meet-requires Inv-loop μ-loop
-meet-requires c κs =
-    let inv = c .before .loop .inv in
-    (inv .sound, inv .a-inside, inv .b-inside)
+meet-requires c κs = let inv = c .before .loop .inv in (inv .sound, inv .a-inside, inv .b-inside)
 
 enum-told : tie.Need-enum-told Inv-loop μ-loop
 enum-told c = c .match .keys1
 
 same-length : tie.Need-same-length Inv-loop μ-loop
-same-length c =
-    let met = c .before .before .before .before in
-    lengths (met .before .before .loop .inv) (met .meet .ensures)
+same-length c = let met = c .before .before .before .before in lengths (met .before .before .loop .inv) (met .meet .ensures)
 
 returns : tie.Need-returns Inv-loop μ-loop
 returns c =
@@ -37,9 +31,7 @@ enum-told-2 : tie.Need-enum-told-2 Inv-loop μ-loop
 enum-told-2 c = c .match .keys2
 
 same-length-2 : tie.Need-same-length-2 Inv-loop μ-loop
-same-length-2 c =
-    let met = c .before .before .before .before .before in
-    lengths (met .before .before .loop .inv) (met .meet .ensures)
+same-length-2 c = let met = c .before .before .before .before .before in lengths (met .before .before .loop .inv) (met .meet .ensures)
 
 returns-2 : tie.Need-returns-2 Inv-loop μ-loop
 returns-2 c =
@@ -103,22 +95,5 @@ pub solve-spec : {M : Type 1} → statement M
 solve-spec =
     tie.close
     (tie.spec
-    Inv-loop
-    μ-loop
-    loop-holds
-    meet-requires
-    enum-told
-    same-length
-    returns
-    enum-told-2
-    same-length-2
-    returns-2
-    sub-left
-    get-pair-requires
-    loop-less
-    loop-again
-    enum-known-met
-    put-pair-requires
-    add-left
-    loop-less-2
-    loop-again-2)
+    Inv-loop μ-loop loop-holds meet-requires enum-told same-length returns enum-told-2 same-length-2 returns-2 sub-left
+    get-pair-requires loop-less loop-again enum-known-met put-pair-requires add-left loop-less-2 loop-again-2)

@@ -80,17 +80,6 @@ measure-loop-again t c =
 
 pub +measure-spec : {M : Type 1} → statement M
 +measure-spec = close μ-measure λ t. measure-lts.spec (claims t)
-    (measure-at t)
-    measure.Post
-    Inv-loop
-    μ-loop
-    (measure-loop-holds t)
-    (measure-returns t)
-    (measure-root-requires t)
-    (measure-get-requires t)
-    (measure-sub-result t)
-    (measure-returns-2 t)
-    (measure-sub-measure t)
-    (measure-measure-requires t)
-    (measure-loop-less t)
-    (measure-loop-again t)
+    (measure-at t) measure.Post Inv-loop μ-loop (measure-loop-holds t) (measure-returns t) (measure-root-requires t)
+    (measure-get-requires t) (measure-sub-result t) (measure-returns-2 t) (measure-sub-measure t)
+    (measure-measure-requires t) (measure-loop-less t) (measure-loop-again t)

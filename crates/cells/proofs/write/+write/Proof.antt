@@ -45,14 +45,10 @@ abbrev μ-loop : write-lts.MeasureT-loop
 μ-loop cells₀ out₀ i₀ left₀ numbered₀ i₁ left₁ numbered₁ cells out i left numbered = left
 
 write-loop-holds : (t : ℕ) → write-lts.Need-loop-holds (claims t) (write-at t) write.Post Inv-loop μ-loop
-write-loop-holds t c =
-    let pre = c .before .before .pre .1 in
-    writes-at-first (pre .0) (pre .1) (pre .2)
+write-loop-holds t c = let pre = c .before .before .pre .1 in writes-at-first (pre .0) (pre .1) (pre .2)
 
 write-returns : (t : ℕ) → write-lts.Need-returns (claims t) (write-at t) write.Post Inv-loop μ-loop
-write-returns t c =
-    let inv = c .before .loop .inv in
-    inv .goes-on (wrote-none (inv .ready) (c .if1 .taken))
+write-returns t c = let inv = c .before .loop .inv in inv .goes-on (wrote-none (inv .ready) (c .if1 .taken))
 
 write-same-length : (t : ℕ) → write-lts.Need-same-length (claims t) (write-at t) write.Post Inv-loop μ-loop
 write-same-length t c = write-returns t c .kept .same-length
@@ -61,19 +57,13 @@ write-same-length-2 : (t : ℕ) → write-lts.Need-same-length-2 (claims t) (wri
 write-same-length-2 t c = write-returns t c .same-length
 
 write-root-requires : (t : ℕ) → write-lts.Need-root-requires (claims t) (write-at t) write.Post Inv-loop μ-loop
-write-root-requires t c κs =
-    let inv = c .before .before .loop .inv in
-    (inv .ready .sound, inv .inside)
+write-root-requires t c κs = let inv = c .before .before .loop .inv in (inv .ready .sound, inv .inside)
 
 write-get-requires : (t : ℕ) → write-lts.Need-get-requires (claims t) (write-at t) write.Post Inv-loop μ-loop
-write-get-requires t c κs =
-    let rooted = c .before in
-    omega (arith, rooted .root .ensures .below, rooted .before .before .before .loop .inv .inside)
+write-get-requires t c κs = let rooted = c .before in omega (arith, rooted .root .ensures .below, rooted .before .before .before .loop .inv .inside)
 
 write-sub-at : (t : ℕ) → write-lts.Need-sub-at (claims t) (write-at t) write.Post Inv-loop μ-loop
-write-sub-at t c =
-    let rooted = c .before .before in
-    omega (arith, rooted .before .before .before .loop .inv .fits)
+write-sub-at t c = let rooted = c .before .before in omega (arith, rooted .before .before .before .loop .inv .fits)
 
 write-write-leaf-requires : (t : ℕ) → write-lts.Need-write-leaf-requires (claims t) (write-at t) write.Post Inv-loop μ-loop
 write-write-leaf-requires t c κs =
@@ -137,24 +127,7 @@ write-loop-again t c =
 
 pub +write-spec : {M : Type 1} → statement M
 +write-spec = close μ-write λ t. write-lts.spec (claims t)
-    (write-at t)
-    write.Post
-    Inv-loop
-    μ-loop
-    (write-loop-holds t)
-    (write-same-length t)
-    (write-same-length-2 t)
-    (write-returns t)
-    (write-root-requires t)
-    (write-get-requires t)
-    (write-sub-at t)
-    (write-write-leaf-requires t)
-    (write-same-length-3 t)
-    (write-same-length-4 t)
-    (write-returns-2 t)
-    (write-mul-out t)
-    (write-slice-write-out t)
-    (write-sub-write t)
-    (write-write-requires t)
-    (write-loop-less t)
-    (write-loop-again t)
+    (write-at t) write.Post Inv-loop μ-loop (write-loop-holds t) (write-same-length t) (write-same-length-2 t)
+    (write-returns t) (write-root-requires t) (write-get-requires t) (write-sub-at t) (write-write-leaf-requires t)
+    (write-same-length-3 t) (write-same-length-4 t) (write-returns-2 t) (write-mul-out t) (write-slice-write-out t)
+    (write-sub-write t) (write-write-requires t) (write-loop-less t) (write-loop-again t)

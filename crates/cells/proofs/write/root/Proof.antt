@@ -28,9 +28,7 @@ returns c =
     record { below = below; no-link = rw (got .get .ensures) at (c .if1 .taken); same = same }
 
 loop-less : tie.Need-loop-less Inv-loop μ-loop
-loop-less c =
-    let got = c .before in
-    link-falls (got .before .before .before .pre .0) (got .before .loop .r) (got .get .ensures) (c .if1 .left)
+loop-less c = let got = c .before in link-falls (got .before .before .before .pre .0) (got .before .loop .r) (got .get .ensures) (c .if1 .left)
 
 loop-again : tie.Need-loop-again Inv-loop μ-loop
 loop-again c =

@@ -31,9 +31,7 @@ put-pair-requires : tie.Need-put-pair-requires
 put-pair-requires c κs = search needs
 
 add-t15 : tie.Need-add-t15
-add-t15 c =
-    let got = c .before .before .before .before .before in
-    omega (arith, few-numbered (got .before .before .before .pre .0))
+add-t15 c = let got = c .before .before .before .before .before in omega (arith, few-numbered (got .before .before .before .pre .0))
 
 same-length-2 : tie.Need-same-length-2
 same-length-2 c = search needs
@@ -50,12 +48,4 @@ pub variable-spec : {M : Type 1} → statement M
 variable-spec =
     tie.close
     (tie.spec
-    get-pair-requires
-    add-t10
-    same-length
-    returns
-    add-next
-    put-pair-requires
-    add-t15
-    same-length-2
-    returns-2)
+    get-pair-requires add-t10 same-length returns add-next put-pair-requires add-t15 same-length-2 returns-2)
