@@ -9,23 +9,27 @@ use native.Mathlib.Omega.{arith}
 use lib.ListN.{length, getD, List·getD-eq-default}
 use Rattle.language.specs.Ty.{unit, bool, int, _⇒_, var, Subst}
 use Rattle.language.specs.Count.{count, count-changed, count-bound, count-all, count-none, count-some}
-use Rattle.cells.specs.Grounding.{Unmarked, noMark, unmarked, Waits, Evaluates, Marking, LeansOrEvaluates, Settled, UnmarkedBelow, Progress}
+use Rattle.cells.specs.Grounding.{MarkingAt, Unmarked, noMark, unmarked, Waits, Evaluates, Marking, LeansOrEvaluates, Settled, UnmarkedBelow, Progress}
 use Rattle.cells.specs.Interface.{GroundedOrNone, GroundTested}
 use Rattle.cells.specs.Cells.{Cell, free, link, unit-cell, bool-cell, int-cell, arrow-cell, Sat, ev-free, ev-link, ev-unit, ev-bool, ev-int, ev-arrow}
 use Rattle.cells.specs.CellSteps.{tag}
 use Rattle.cells.specs.Grounded.{ungrounded-has-none, Leans, on-link, on-left, on-right}
 use Rattle.cells.specs.Layout.{cellAt, pairAt, storeOf, cellsIn, Sound, SameCells, noPair}
-use Rattle.cells.specs.StoreLaws.{same-cells, same-then, same-beside, same-store, sound-beside, says-tag, says-free, says-link, says-arrow, parts-inside, links-fall}
+use Rattle.cells.specs.StoreLaws.{link-falls, same-cells, same-then, same-beside, same-store, sound-beside, says-tag, says-free, says-link, says-arrow, parts-inside, links-fall}
 use Rattle.cells.specs.Puts.{PairPut}
 use Rattle.cells.specs.declared.TypeCell.{TypeCell}
 
 -- ---- What a cell leans on
 
-module _ {mem : List ℕ} (m : Marking mem) {i : ℕ} (inside : i < cellsIn mem) {c : TypeCell} (e : c ≡ cellAt mem i) where
+module _ {mem : List ℕ} {i : ℕ} (at : MarkingAt mem i) {c : TypeCell} (e : c ≡ cellAt mem i) where
+  abbrev m : Marking mem
+  m = at .marking
+
   pub link-inside : c .tag ≡ 1 → c .a < cellsIn mem
-  link-inside t =
-      let below = m .ready .sound .allowed i .link-down (rw e at t) in
-      rw e (omega arith)
+  link-inside t = omega (arith, link-falls (m .ready .sound) i e t, at .inside)
+
+  pub arrow-inside : c .tag ≡ 5 → (c .a < cellsIn mem) × (c .b < cellsIn mem)
+  arrow-inside = parts-inside (m .ready .sound) i e
 
   pub link-leans : c .tag ≡ 1 → {waits : Bool} → waits ≡ unmarked mem (c .a) → LeansOrEvaluates mem i waits
   link-leans t {waits = true} w = on-link (says-link mem i e t) (link-inside t, sym w)
@@ -34,10 +38,10 @@ module _ {mem : List ℕ} (m : Marking mem) {i : ℕ} (inside : i < cellsIn mem)
       (τ, ev-link (says-link mem i e t) d)
 
   pub arrow-leans-left : c .tag ≡ 5 → unmarked mem (c .a) ≡ true → LeansOrEvaluates mem i true
-  arrow-leans-left t w = on-left (says-arrow mem i e t) (parts-inside (m .ready .sound) i e t .0, w)
+  arrow-leans-left t w = on-left (says-arrow mem i e t) (arrow-inside t .0, w)
 
   pub arrow-leans-right : c .tag ≡ 5 → unmarked mem (c .a) ≡ false → {waits : Bool} → waits ≡ unmarked mem (c .b) → LeansOrEvaluates mem i waits
-  arrow-leans-right t marked {waits = true} w = on-right (says-arrow mem i e t) (parts-inside (m .ready .sound) i e t .1, sym w)
+  arrow-leans-right t marked {waits = true} w = on-right (says-arrow mem i e t) (arrow-inside t .1, sym w)
   arrow-leans-right t marked {waits = false} w =
       let (τ₁, d₁) = m .evaluates (c .a) marked in
       let (τ₂, d₂) = m .evaluates (c .b) (sym w) in
@@ -86,12 +90,12 @@ module _ {D : ℕ → Type 0} where
       omega (arith, p .counted)
 
 -- A visit that marks nothing.
-module _ {mem : List ℕ} {i : ℕ} (m : Marking mem) where
+module _ {mem : List ℕ} {i : ℕ} (at : MarkingAt mem i) where
   pub visit-marked : unmarked mem i ≡ false → Progress (λ j. j ≡ i) mem mem 0
-  visit-marked marked = progress-none m (λ j e waits. absurd (never (sym waits ∙ rw e marked)))
+  visit-marked marked = progress-none (at .marking) (λ j e waits. absurd (never (sym waits ∙ rw e marked)))
 
   pub visit-leaning : LeansOrEvaluates mem i true → Progress (λ j. j ≡ i) mem mem 0
-  visit-leaning leans = progress-none m (λ j e waits. rw e leans)
+  visit-leaning leans = progress-none (at .marking) (λ j e waits. rw e leans)
 
 -- Two visits more, the first of cell i.
 pub pass-on : {E : ℕ → Type 0} {a b c d : List ℕ} {i new up down : ℕ} → Progress (λ j. j < i) a b new → Progress (λ j. j ≡ i) b c up → Progress E c d down → Progress (λ j. j < i + 1) a d (new + up + down)
@@ -102,21 +106,21 @@ pass-on {E} {i} p q r = progress-within (λ j h. inl (here j h (ℕ-discrete j i
     here j h (no n) = inl (omega arith)
 
 -- One mark.
-module _ {before after : List ℕ} {i : ℕ} (m : Marking before) (inside : i < cellsIn before) (waited : unmarked before i ≡ true) (ev : Evaluates before i)
+module _ {before after : List ℕ} {i : ℕ} (at : MarkingAt before i) (waited : unmarked before i ≡ true) (ev : Evaluates before i)
     (put : PairPut before after i (record { left = 1; right = 0 })) where
   other-marks-kept : (j : ℕ) → j ≢ i → unmarked after j ≡ unmarked before j
   other-marks-kept j n = ap noMark (put .others j n)
 
   marked-marking : Marking after
-  marked-marking = record { ready = record { sound = sound-beside (m .ready .sound) put; none = λ j. none j (ℕ-discrete j i) }; evaluates = λ j. evaluated j (ℕ-discrete j i) }
+  marked-marking = record { ready = record { sound = sound-beside (at .marking .ready .sound) put; none = λ j. none j (ℕ-discrete j i) }; evaluates = λ j. evaluated j (ℕ-discrete j i) }
     where
       none : (j : ℕ) → Dec (j ≡ i) → pairAt after j .right ≡ 0
       none j (yes e) = rw e (ap (λ q. q .right) (put .there))
-      none j (no n) = ap (λ q. q .right) (put .others j n) ∙ m .ready .none j
+      none j (no n) = ap (λ q. q .right) (put .others j n) ∙ at .marking .ready .none j
 
       evaluated : (j : ℕ) → Dec (j ≡ i) → unmarked after j ≡ false → Evaluates after j
       evaluated j (yes e) marked = rw (e, same-store (same-beside put)) ev
-      evaluated j (no n) marked = rw (same-store (same-beside put)) (m .evaluates j (sym (other-marks-kept j n) ∙ marked))
+      evaluated j (no n) marked = rw (same-store (same-beside put)) (at .marking .evaluates j (sym (other-marks-kept j n) ∙ marked))
 
   pub progress-one : {D : ℕ → Type 0} → Progress D before after 1
   progress-one =
@@ -125,7 +129,7 @@ module _ {before after : List ℕ} {i : ℕ} (m : Marking before) (inside : i < 
       one : 1 + count (unmarked after) (cellsIn before) ≡ count (unmarked before) (cellsIn before)
       one =
           let here : unmarked after i ≡ false = ap noMark (put .there) in
-          let changed = rw (waited, here) at (count-changed (unmarked before) (unmarked after) i other-marks-kept (cellsIn before) inside) in
+          let changed = rw (waited, here) at (count-changed (unmarked before) (unmarked after) i other-marks-kept (cellsIn before) (at .inside)) in
           omega arith
 
 -- ---- Clearing

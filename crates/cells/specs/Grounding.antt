@@ -33,6 +33,11 @@ pub record Marking (mem : List ℕ) : Type 0 where
   pub ready : Unnumbered mem
   pub evaluates : (i : ℕ) → unmarked mem i ≡ false → Evaluates mem i
 
+-- A cell of the slice besides.
+pub record MarkingAt (mem : List ℕ) (i : ℕ) : Type 0 where
+  pub marking : Marking mem
+  pub inside : i < cellsIn mem
+
 -- Cell i leans on an unmarked cell, or it evaluates.
 abbrev pub LeansOrEvaluates : List ℕ → ℕ → Bool → Type 0
 LeansOrEvaluates mem i true = Leans (storeOf mem) (Waits mem) i

@@ -12,7 +12,7 @@ use Rattle.cells.specs.Solving.{Rooted, isLinkIn, linksIn, Shortened}
 use Rattle.cells.specs.Cells.{link, Sat}
 use Rattle.cells.specs.CellSteps.{fits-at, path-shortened}
 use Rattle.cells.specs.Layout.{cellAt, storeOf, cellsIn, Sound}
-use Rattle.cells.specs.StoreLaws.{store-put, sound-put, says-link}
+use Rattle.cells.specs.StoreLaws.{link-falls, store-put, sound-put, says-link}
 use Rattle.cells.specs.Puts.{CellPut}
 use Rattle.cells.specs.declared.TypeCell.{TypeCell}
 
@@ -44,7 +44,7 @@ module _ {before after : List ℕ} {i at : ℕ} (w : Shortened before after i at
     is-linked = ap (λ (y : TypeCell). y .tag) (sym x-is) ∙ linked
 
     next-below : x .a < at
-    next-below = rw (ap (λ (y : TypeCell). y .a) x-is) (w .sound .allowed at .link-down is-linked)
+    next-below = link-falls (w .sound) at x-is linked
 
     -- It goes on to the next cell.
     pub one-further : Shortened before after i (x .a)

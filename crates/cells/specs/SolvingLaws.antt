@@ -17,8 +17,10 @@ use Rattle.cells.specs.StoreLaws.{store-beside, sound-beside}
 use Rattle.cells.specs.Solving.{isLinkIn, linksIn, Pending, AllEqual, PairsInside, Joined, Meeting}
 use Rattle.cells.specs.Puts.{PairPut}
 use Rattle.cells.specs.Interface.{Outcome}
+use Rattle.cells.specs.Meetings.{meeting-is}
 use Rattle.cells.specs.declared.TypeCell.{TypeCell}
 use Rattle.cells.specs.declared.memory.Pair.{Pair}
+use Rattle.cells.specs.declared.solve.Encounter.{Encounter}
 use Rattle.cells.specs.declared.solve.Encounter.the-variants.{Clash, Done, Parts}
 
 -- ---- Pending pairs
@@ -68,14 +70,21 @@ links-few : {mem : List ℕ} → Sound mem → 0 < cellsIn mem → linksIn mem <
 unfolding linksIn
 links-few {mem} s some = count-but-0 (isLinkIn mem) (cellsIn mem) some (ne-eqb (cellAt mem 0 .tag) 1 (λ e. let down = s .allowed 0 .link-down e in omega arith))
 
-module _ {before mem after : List ℕ} {i j pending a b left : ℕ} (r : Running before i j pending mem a b left) where
-  pub solving-clashes : Meeting mem after a b Clash → Outcome before after (AllEqual before i j pending) false
-  solving-clashes m =
-      record { same-length = m .same-length ∙ r .same-length; says = λ ρ h d. let (h′, (e, p)) = r .keeps ρ .0 (h, d) in m .says ρ h′ e }
+module _ {before mem after : List ℕ} {i j pending a b left : ℕ} {met : Encounter} (r : Running before i j pending mem a b left) (meeting : Meeting mem after a b met) where
+  pub lengths : length after ≡ length before
+  lengths = meeting .same-length ∙ r .same-length
 
-  module _ (m : Meeting mem after a b Done) where
+  pub solving-clashes : met ≡ Clash → Outcome before after (AllEqual before i j pending) false
+  solving-clashes told =
+      let m = meeting-is meeting told in
+      record { same-length = lengths; says = λ ρ h d. let (h′, (e, p)) = r .keeps ρ .0 (h, d) in m .says ρ h′ e }
+
+  module _ (told : met ≡ Done) where
     joined : Joined mem after a b (λ ρ. Unit)
-    joined = m .says .0
+    joined = meeting-is meeting told .says .0
+
+    links-kept : linksIn mem ≤ linksIn after
+    links-kept = meeting-is meeting told .says .1
 
     -- The pair is done; the others stand as they stood.
     done : (ρ : Subst) → (Sat ρ (storeOf before) × AllEqual before i j pending ρ) ↔ (Sat ρ (storeOf after) × Pending ρ after left)
@@ -91,7 +100,7 @@ module _ {before mem after : List ℕ} {i j pending a b left : ℕ} (r : Running
     pub solved : left ≡ 0 → Outcome before after (AllEqual before i j pending) true
     solved none =
         record {
-          same-length = m .same-length ∙ r .same-length;
+          same-length = lengths;
           says = record { sound = joined .sound; keeps = λ ρ. (λ h. done ρ .0 h .0, λ h. done ρ .1 (h, record { at = λ k below. absurd (omega arith) })) };
         }
 
@@ -99,17 +108,17 @@ module _ {before mem after : List ℕ} {i j pending a b left : ℕ} (r : Running
     newest-inside some =
         let few = r .few in
         let bound = links-few (r .sound) (omega (arith, r .a-inside)) in
-        rw (m .same-length) (omega arith)
+        rw (meeting .same-length) (omega arith)
 
     module _ {x : Pair} (some : left ≢ 0) (x-is : x ≡ pairAt after (left - 1)) where
       pub next-pair : Running before i j pending after (x .left) (x .right) (left - 1)
       next-pair =
           let few = r .few in
-          let more = m .says .1 in
-          let inside : PairsInside after left = pairs-inside-kept (joined .pairs) (m .same-length) (r .pairs-inside) in
+          let more = links-kept in
+          let inside : PairsInside after left = pairs-inside-kept (joined .pairs) (meeting .same-length) (r .pairs-inside) in
           let newest : (x .left < cellsIn after) × (x .right < cellsIn after) = subst (λ (y : Pair). (y .left < cellsIn after) × (y .right < cellsIn after)) (sym x-is) (inside .at (left - 1) (omega arith)) in
           record {
-            same-length = m .same-length ∙ r .same-length;
+            same-length = lengths;
             sound = joined .sound;
             a-inside = newest .0;
             b-inside = newest .1;
@@ -123,10 +132,13 @@ module _ {before mem after : List ℕ} {i j pending a b left : ℕ} (r : Running
 
       pub next-pair-less : work after (left - 1) < work mem left
       next-pair-less =
-          let more = m .says .1 in
-          rw (m .same-length) (omega arith)
+          let more = links-kept in
+          rw (meeting .same-length) (omega arith)
 
-  module _ {l l′ s s′ : ℕ} (m : Meeting mem after a b (Parts l l′ s s′)) where
+  module _ {l l′ s s′ : ℕ} (told : met ≡ Parts l l′ s s′) where
+    m : Meeting mem after a b (Parts l l′ s s′)
+    m = meeting-is meeting told
+
     pub room-for-pair : left < cellsIn after
     room-for-pair =
         let few = r .few in
@@ -134,6 +146,9 @@ module _ {before mem after : List ℕ} {i j pending a b left : ℕ} (r : Running
         let inside : 0 < cellsIn after = omega (arith, m .says .2 .0) in
         let bound = links-few (m .says .0 .sound) inside in
         omega arith
+
+    pub few-pairs : left < 4096
+    few-pairs = omega (arith, room-for-pair, m .says .0 .sound .small)
 
     module _ {pushed : List ℕ} (p : PairPut after pushed left (record { left = s; right = s′ })) where
       pairs-below : (k : ℕ) → k < left → pairAt pushed k ≡ pairAt mem k
@@ -177,7 +192,7 @@ module _ {before mem after : List ℕ} {i j pending a b left : ℕ} (r : Running
           let few = r .few in
           let counted = links-counted in
           record {
-            same-length = p .same-length ∙ m .same-length ∙ r .same-length;
+            same-length = p .same-length ∙ lengths;
             sound = sound-beside (m .says .0 .sound) p;
             a-inside = rw (p .same-length) (m .says .2 .0);
             b-inside = rw (p .same-length) (m .says .2 .1);
@@ -198,6 +213,7 @@ module _ {before mem after : List ℕ} {i j pending a b left : ℕ} (r : Running
       pub parts-less : work pushed (left + 1) < work mem left
       parts-less =
           let counted = links-counted in
+          let more = m .says .1 in
           let same = cells-same in
           let bound = links-few (m .says .0 .sound) (omega (arith, m .says .2 .0)) in
           omega arith

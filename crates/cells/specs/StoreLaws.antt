@@ -80,6 +80,9 @@ module _ (mem : List ℕ) (i : ℕ) {c : TypeCell} (e : c ≡ cellAt mem i) wher
   pub says-arrow : c .tag ≡ 5 → storeOf mem i ≡ arrow-cell (c .a) (c .b)
   says-arrow t = store-is mem i e ∙ rw t refl
 
+pub link-falls : {mem : List ℕ} → Sound mem → (i : ℕ) {c : TypeCell} → c ≡ cellAt mem i → c .tag ≡ 1 → c .a < i
+link-falls s i e t = rw e (s .allowed i .link-down (rw e at t))
+
 pub parts-inside : {mem : List ℕ} → Sound mem → (i : ℕ) {c : TypeCell} → c ≡ cellAt mem i → c .tag ≡ 5 → (c .a < cellsIn mem) × (c .b < cellsIn mem)
 parts-inside s i e t = rw e (s .allowed i .parts-inside (rw e at t))
 

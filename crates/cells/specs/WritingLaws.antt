@@ -18,7 +18,7 @@ use Rattle.cells.specs.Interface.{Unnumbered, TypeWritten, fits, over, C
 use Rattle.cells.specs.Cells.{Ev}
 use Rattle.cells.specs.Grounded.{ev-at}
 use Rattle.cells.specs.Layout.{cellAt, pairAt, cellsIn, storeOf}
-use Rattle.cells.specs.StoreLaws.{store-beside, sound-beside, says-free}
+use Rattle.cells.specs.StoreLaws.{parts-inside, store-beside, sound-beside, says-free}
 use Rattle.cells.specs.Writing.{Root, Measured, numberIn, Numbers, hasNumber, Ready, Kept, wordsAfter, LeafCell, OneWord, LeafSpelled, WordsPut, Wrote}
 use Rattle.cells.specs.Spelling.{length-spell, size-positive, number-other, appearing-new, number-new, words-new, appearing-old, words-old, words-arrow}
 use Rattle.cells.specs.RootTypes.{parts, LeafType, is-variable, is-unit, is-bool, is-int, leaf-type}
@@ -132,19 +132,24 @@ wrote-none ready none = record {
   written = λ seen τ numbers d fits. absurd (omega (arith, size-positive τ));
 }
 
-module _ {cells : List ℕ} {i r left numbered : ℕ} (some : left ≢ 0) (root : Root cells i r) where
-  pub wrote-leaf : {cells′ : List ℕ} (out : List ℕ) {w : Word} → LeafSpelled cells numbered r cells′ w →
-      Wrote cells i out left numbered cells′ (set out (length out - left) (w .word)) (record { left = left - 1; numbered = w .numbered })
-  wrote-leaf out leaf = record {
-    kept = leaf .kept;
-    no-more = omega arith;
-    same-length = length-set out _ _;
-    written = λ seen τ numbers d fits.
-        let one = leaf .spelled seen τ numbers (root .same τ d) in
-        let size-one : size τ ≡ 1 = sym (length-spell _ τ) ∙ ap length (one .is) in
-        record { taken = omega arith; numbers = one .numbers; put = rw (one .is) refl };
-  }
+pub leaf-wrote : {cells cells′ : List ℕ} (out : List ℕ) {r left numbered : ℕ} (at : ℕ) {w : Word} → left ≢ 0 → at + left ≡ length out → LeafSpelled cells numbered r cells′ w →
+    Wrote cells r out left numbered cells′ (set out at (w .word)) (record { left = left - 1; numbered = w .numbered })
+leaf-wrote out {left = left} at some place leaf = record {
+  kept = leaf .kept;
+  no-more = omega arith;
+  same-length = length-set out _ _;
+  written = λ seen τ numbers d fits.
+      let one = leaf .spelled seen τ numbers d in
+      let size-one : size τ ≡ 1 = sym (length-spell _ τ) ∙ ap length (one .is) in
+      let here : length out - left ≡ at = omega arith in
+      record { taken = omega arith; numbers = one .numbers; put = rw (one .is, here) refl };
+}
 
+-- The words of a cell are its root's.
+pub root-wrote : {cells cells′ out out′ : List ℕ} {i r left numbered : ℕ} {rest : Rest} → Root cells i r → Wrote cells r out left numbered cells′ out′ rest → Wrote cells i out left numbered cells′ out′ rest
+root-wrote root w = record { kept = w .kept; no-more = w .no-more; same-length = w .same-length; written = λ seen τ numbers d. w .written seen τ numbers (root .same τ d) }
+
+module _ {cells : List ℕ} {i r left numbered : ℕ} (some : left ≢ 0) (root : Root cells i r) where
   module _ {c : TypeCell} {cells₁ cells₂ out₂ out₃ : List ℕ} {first rest : Rest} (out : List ℕ) (fits : left ≤ length out) (at-root : c ≡ cellAt cells r) (arrow : c .tag ≡ 5)
       (wrote₁ : Wrote cells (c .a) (set out (length out - left) 4) (left - 1) numbered cells₁ out₂ first)
       (wrote₂ : Wrote cells₁ (c .b) out₂ (first .left) (first .numbered) cells₂ out₃ rest) where
@@ -166,7 +171,7 @@ module _ {cells : List ℕ} {i r left numbered : ℕ} (some : left ≢ 0) (root 
           put = arrow-put out (length out - left) (wordsAfter seen t₁) (wordsAfter (appearing seen t₁) t₂) next₁ next₂ (put₁ .put) (put₂ .put) ∙ ap (sets out (length out - left)) (sym (words-arrow seen t₁ t₂));
         }
 
-    pub wrote-arrow : Wrote cells i out left numbered cells₂ out₃ rest
+    wrote-arrow : Wrote cells i out left numbered cells₂ out₃ rest
     wrote-arrow = record {
       kept = record {
         ready = wrote₂ .kept .ready;
@@ -179,6 +184,40 @@ module _ {cells : List ℕ} {i r left numbered : ℕ} (some : left ≢ 0) (root 
           let (t₁, t₂, d₁, d₂, is) = parts root at-root arrow τ d in
           rw is (parts-put seen t₁ t₂ numbers d₁ d₂ (rw is at enough));
     }
+
+-- ---- From part to part
+
+-- To write the current cell's type next is to write cell i₀'s, and there is room for no more words than then.
+pub record WritesOn (cells₀ : List ℕ) (i₀ : ℕ) (out₀ : List ℕ) (left₀ numbered₀ : ℕ) (cells : List ℕ) (i : ℕ) (out : List ℕ) (left numbered : ℕ) : Type 0 where
+  pub ready : Ready cells numbered
+  pub inside : i < cellsIn cells
+  pub no-more : left ≤ left₀
+  pub same-length : length out ≡ length out₀
+  pub fits : left ≤ length out
+  pub goes-on : {cells′ out′ : List ℕ} {rest : Rest} → Wrote cells i out left numbered cells′ out′ rest → Wrote cells₀ i₀ out₀ left₀ numbered₀ cells′ out′ rest
+
+pub writes-at-first : {cells out : List ℕ} {i left numbered : ℕ} → Ready cells numbered → i < cellsIn cells → left ≤ length out → WritesOn cells i out left numbered cells i out left numbered
+writes-at-first ready inside enough = record { ready = ready; inside = inside; no-more = omega arith; same-length = refl; fits = enough; goes-on = λ w. w }
+
+-- At an arrow the left part is written first, and then the right part is next.
+module _ {cells₀ out₀ cells out : List ℕ} {i₀ left₀ numbered₀ i r left numbered : ℕ} {c : TypeCell} (w : WritesOn cells₀ i₀ out₀ left₀ numbered₀ cells i out left numbered)
+    (some : left ≢ 0) (root : Root cells i r) (at-root : c ≡ cellAt cells r) (arrow : c .tag ≡ 5) where
+  pub left-part-ready : Ready cells numbered × (c .a < cellsIn cells) × (left - 1 ≤ length (set out (length out - left) 4))
+  left-part-ready = (w .ready, parts-inside (w .ready .sound) r at-root arrow .0, simp length-set (omega (arith, w .fits)))
+
+  pub right-part-next : {cells₁ out₁ : List ℕ} {first : Rest} → Wrote cells (c .a) (set out (length out - left) 4) (left - 1) numbered cells₁ out₁ first →
+      WritesOn cells₀ i₀ out₀ left₀ numbered₀ cells₁ (c .b) out₁ (first .left) (first .numbered)
+  right-part-next {out₁ = out₁} wrote = record {
+    ready = wrote .kept .ready;
+    inside = rw (wrote .kept .same-length) (parts-inside (w .ready .sound) r at-root arrow .1);
+    no-more = omega (arith, wrote .no-more, w .no-more);
+    same-length = same ∙ w .same-length;
+    fits = omega (arith, wrote .no-more, same, w .fits);
+    goes-on = λ next. w .goes-on (wrote-arrow some root out (w .fits) at-root arrow wrote next);
+  }
+    where
+      same : length out₁ ≡ length out
+      same = wrote .same-length ∙ length-set out _ _
 
 -- ---- A whole type
 

@@ -7,7 +7,7 @@ ghost use mathlib.Core.Path.{_≡_};
 ghost use lib.ListN.{length};
 ghost use Rattle.cells.specs.Layout.{cellsIn, Sound};
 ghost use Rattle.cells.specs.Interface.{GroundTested};
-ghost use Rattle.cells.specs.Grounding.{unmarked, UnmarkedBelow, Unmarked, Marking, LeansOrEvaluates, Progress};
+ghost use Rattle.cells.specs.Grounding.{unmarked, UnmarkedBelow, Unmarked, Marking, MarkingAt, LeansOrEvaluates, Progress};
 
 pub(crate) fn unmark(cells: &mut [u32], n: u32)
     requires { ⌜ Sound (now cells) × (length (now cells) ≡ 5 * n) ⌝ }
@@ -29,14 +29,15 @@ fn is_unmarked(cells: &[u32], i: u32) -> bool
 
 // Does cell i lean on an unmarked cell?
 fn leans(cells: &[u32], i: u32) -> bool
-    requires { ⌜ Marking (now cells) × (i < cellsIn (now cells)) ⌝ }
+    requires { ⌜ MarkingAt (now cells) i ⌝ }
     ensures { λ r. ⌜ LeansOrEvaluates (now (cells .entry)) i r ⌝ }
 {
     let c = get(cells, i);
-    if c.tag == 1 {
+    let tag = c.tag;
+    if tag == 1 {
         return is_unmarked(cells, c.a);
     }
-    if c.tag == 5 {
+    if tag == 5 {
         if is_unmarked(cells, c.a) {
             return true;
         }
@@ -47,7 +48,7 @@ fn leans(cells: &[u32], i: u32) -> bool
 
 // Marks cell i unless it is marked or leans on an unmarked cell. Answers how many cells it marked.
 fn visit(cells: &mut [u32], i: u32) -> u32
-    requires { ⌜ Marking (now cells) × (i < cellsIn (now cells)) ⌝ }
+    requires { ⌜ MarkingAt (now cells) i ⌝ }
     ensures { λ new. ⌜ Progress (λ j. j ≡ i) (now (cells .entry)) (now (cells .exit)) new ⌝ }
 {
     if !is_unmarked(cells, i) {

@@ -4,7 +4,8 @@ use crate::memory::Pair;
 use crate::memory::get;
 use crate::memory::get_pair;
 use crate::memory::put_pair;
-ghost use Prim.Native.Nat.{_≤_, _<_};
+ghost use Prim.Native.Nat.{_+_, _≤_, _<_};
+ghost use mathlib.Core.Logic.{_≢_};
 ghost use mathlib.Core.Path.{_≡_};
 ghost use lib.ListN.{length};
 ghost use Rattle.cells.specs.Layout.{cellAt, cellsIn, Sound};
@@ -30,7 +31,8 @@ fn root(cells: &[u32], i: u32) -> u32
     let mut r = i;
     loop {
         let c = get(cells, r);
-        if c.tag != 1 {
+        let tag = c.tag;
+        if tag != 1 {
             return r;
         }
         r = c.a;
@@ -50,7 +52,8 @@ pub(crate) fn measure(cells: &[u32], i: u32, room: usize) -> usize
         }
         let r = root(cells, i);
         let c = get(cells, r);
-        if c.tag != 5 {
+        let tag = c.tag;
+        if tag != 5 {
             return room - 1;
         }
         room = measure(cells, c.a, room - 1);
@@ -64,23 +67,25 @@ fn variable(cells: &mut [u32], r: u32, numbered: u32) -> Word
     ensures { λ w. ⌜ LeafSpelled (now (cells .entry)) numbered r (now (cells .exit)) w ⌝ }
 {
     let p = get_pair(cells, r);
-    if p.right != 0 {
+    let number = p.right;
+    if number != 0 {
         return Word {
-            word: p.right + 15,
+            word: number + 15,
             numbered: numbered,
         };
     }
+    let next = numbered + 1;
     put_pair(
         cells,
         r,
         Pair {
             left: p.left,
-            right: numbered + 1,
+            right: next,
         },
     );
     Word {
         word: numbered + 16,
-        numbered: numbered + 1,
+        numbered: next,
     }
 }
 
@@ -90,12 +95,33 @@ fn leaf(cells: &mut [u32], r: u32, numbered: u32) -> Word
     ensures { λ w. ⌜ LeafSpelled (now (cells .entry)) numbered r (now (cells .exit)) w ⌝ }
 {
     let c = get(cells, r);
-    if c.tag == 0 {
+    let tag = c.tag;
+    if tag == 0 {
         return variable(cells, r, numbered);
     }
     Word {
-        word: c.tag - 1,
+        word: tag - 1,
         numbered: numbered,
+    }
+}
+
+// The one word of such a cell at its place in `out`, of whose words `left` remain to be written.
+fn write_leaf(
+    cells: &mut [u32],
+    out: &mut [u32],
+    r: u32,
+    at: usize,
+    left: usize,
+    numbered: u32,
+) -> Rest
+    requires { ⌜ Ready (now cells) numbered × LeafCell (now cells) r × (left ≢ 0) × (at + left ≡ length (now out)) ⌝ }
+    ensures { λ rest. ⌜ Wrote (now (cells .entry)) r (now (out .entry)) left numbered (now (cells .exit)) (now (out .exit)) rest ⌝ }
+{
+    let w = leaf(cells, r, numbered);
+    out[at] = w.word;
+    Rest {
+        left: left - 1,
+        numbered: w.numbered,
     }
 }
 
@@ -116,14 +142,10 @@ pub(crate) fn write(cells: &mut [u32], out: &mut [u32], i: u32, left: usize, num
         }
         let r = root(cells, i);
         let c = get(cells, r);
+        let tag = c.tag;
         let at = out.len() - left;
-        if c.tag != 5 {
-            let w = leaf(cells, r, numbered);
-            out[at] = w.word;
-            return Rest {
-                left: left - 1,
-                numbered: w.numbered,
-            };
+        if tag != 5 {
+            return write_leaf(cells, out, r, at, left, numbered);
         }
         out[at] = 4;
         let first = write(cells, out, c.a, left - 1, numbered);

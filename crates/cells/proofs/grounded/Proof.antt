@@ -1,7 +1,7 @@
 -- `cells::grounded` meets its contract: marks are cleared, and then cells are marked.
 use native.Mathlib.Omega.{arith}
-use Rattle.cells.specs.GroundLaws.{all-unmarked, tested-since}
 use borrow.Author.Needs.{needs}
+use Rattle.cells.specs.GroundLaws.{all-unmarked, tested-since}
 use Rattle.cells.proofs.grounded.Statement.{statement}
 use Rattle.cells.proofs.grounded.Tie as tie
 
@@ -23,7 +23,8 @@ same-length c = search needs
 returns : tie.Need-returns
 returns c =
     let swept = c .before .before in
-    tested-since (swept .before .before .before .before .unmark .ensures .same) (swept .sweep .ensures)
+    let cleared = swept .before .before .before .before in
+    tested-since (cleared .unmark .ensures .same) (swept .sweep .ensures)
 
 pub grounded-spec : {M : Type 1} → statement M
 grounded-spec = tie.close (tie.spec cast-n unmark-requires sweep-requires same-length returns)

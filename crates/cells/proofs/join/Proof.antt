@@ -1,7 +1,7 @@
 -- `cells::join` meets its contract.
 use native.Mathlib.Omega.{arith}
-use Rattle.cells.specs.Outcomes.{outcome-for}
 use borrow.Author.Needs.{needs}
+use Rattle.cells.specs.Outcomes.{outcome-for}
 use Rattle.cells.proofs.join.Statement.{statement}
 use Rattle.cells.proofs.join.Tie as tie
 

@@ -1,6 +1,6 @@
 -- `cells::say` meets its contract: what is said of a cell is said of its root.
-use Rattle.cells.specs.Saying.{root-ready, said-of-root}
 use borrow.Author.Needs.{needs}
+use Rattle.cells.specs.Saying.{root-ready, said-of-root}
 use Rattle.cells.proofs.say.Statement.{statement}
 use Rattle.cells.proofs.say.Tie as tie
 
@@ -8,9 +8,7 @@ find-requires : tie.Need-find-requires
 find-requires c κs = search needs
 
 say-root-requires : tie.Need-say-root-requires
-say-root-requires c κs =
-    let found = c .before .before .before in
-    root-ready (found .find .ensures) (found .before .before .before .pre .2)
+say-root-requires c κs = let found = c .before .before .before in root-ready (found .find .ensures) (found .before .before .before .pre .2)
 
 same-length : tie.Need-same-length
 same-length c = search needs

@@ -35,10 +35,4 @@ pub start-spec : {M : Type 1} → statement M
 start-spec =
     tie.close
     (tie.spec
-    clear-requires
-    put-requires
-    put-requires-2
-    put-requires-3
-    put-requires-4
-    same-length
-    returns)
+    clear-requires put-requires put-requires-2 put-requires-3 put-requires-4 same-length returns)

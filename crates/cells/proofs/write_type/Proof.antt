@@ -29,17 +29,16 @@ slice-relend-prefix-write c = search needs
 
 slice-aggregate-write : tie.Need-slice-aggregate-write
 slice-aggregate-write c =
-    let test = c .before .before in
-    let start = test .before .before .before .before .before in
+    let measured = c .before .before .before in
+    let start = measured .before .before .before .before in
     sym (length-take-le _ (start .args .out .now) (omega arith))
 
 write-requires : tie.Need-write-requires
 write-requires c κs =
-    let test = c .before .before in
-    let start = test .before .before .before .before .before in
-    let pre = start .pre in
+    let measured = c .before .before .before in
+    let (unnumbered, inside) = measured .before .before .before .before .pre in
     let room = slice-aggregate-write c in
-    (ready-at-first (pre .0), pre .1, omega arith)
+    (ready-at-first unnumbered, inside, omega arith)
 
 same-length-2 : tie.Need-same-length-2
 same-length-2 c = search needs
@@ -59,14 +58,5 @@ pub write-type-spec : {M : Type 1} → statement M
 write-type-spec =
     tie.close
     (tie.spec
-    add-room
-    measure-requires
-    same-length
-    returns
-    sub-count
-    slice-relend-prefix-write
-    slice-aggregate-write
-    write-requires
-    same-length-2
-    same-length-3
-    returns-2)
+    add-room measure-requires same-length returns sub-count slice-relend-prefix-write slice-aggregate-write
+    write-requires same-length-2 same-length-3 returns-2)

@@ -46,12 +46,5 @@ pub accepted-spec : {M : Type 1} → statement M
 accepted-spec =
     tie.close
     (tie.spec
-    mul-size
-    add-size
-    returns
-    slice-relend-prefix-with-work
-    slice-aggregate-with-work
-    with-work-requires
-    same-length
-    same-length-2
-    returns-2)
+    mul-size add-size returns slice-relend-prefix-with-work slice-aggregate-with-work with-work-requires same-length
+    same-length-2 returns-2)

@@ -21,9 +21,7 @@ returns : tie.Need-returns
 returns c = refused-answer (c .before .before .before .check .ensures) (c .before .enum-told .given .1) (c .refused .ensures)
 
 accepted-requires : tie.Need-accepted-requires
-accepted-requires c κs =
-    let told = c .before .before .before in
-    sym (told .before .before .check .ensures) ∙ told .checked .given .1
+accepted-requires c κs = let told = c .before .before .before in sym (told .before .before .check .ensures) ∙ told .checked .given .1
 
 same-length : tie.Need-same-length
 same-length c = search needs
@@ -38,12 +36,5 @@ pub infer-spec : {M : Type 1} → statement M
 infer-spec =
     tie.close
     (tie.spec
-    check-requires
-    enum-known-checked
-    enum-told
-    refused-requires
-    returns
-    accepted-requires
-    same-length
-    same-length-2
+    check-requires enum-known-checked enum-told refused-requires returns accepted-requires same-length same-length-2
     returns-2)

@@ -38,11 +38,4 @@ pub principal-spec : {M : Type 1} → statement M
 principal-spec =
     tie.close
     (tie.spec
-    types-requires
-    write-type-requires
-    answer-requires
-    same-length
-    same-length-2
-    returns
-    same-length-3
-    returns-2)
+    types-requires write-type-requires answer-requires same-length same-length-2 returns same-length-3 returns-2)

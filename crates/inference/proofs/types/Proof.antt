@@ -11,9 +11,7 @@ start-requires : tie.Need-start-requires
 start-requires c κs = search needs
 
 nodes-requires : tie.Need-nodes-requires
-nodes-requires c κs =
-    let new = c .before .before .before in
-    started-ready (new .before .before .before .before .pre) (new .start .ensures)
+nodes-requires c κs = let new = c .before .before .before in started-ready (new .before .before .before .before .pre) (new .start .ensures)
 
 mul-grounded : tie.Need-mul-grounded
 mul-grounded c = search needs
@@ -55,12 +53,5 @@ pub types-spec : {M : Type 1} → statement M
 types-spec =
     tie.close
     (tie.spec
-    start-requires
-    nodes-requires
-    mul-grounded
-    add-grounded
-    grounded-requires
-    same-length
-    returns
-    same-length-2
+    start-requires nodes-requires mul-grounded add-grounded grounded-requires same-length returns same-length-2
     returns-2)

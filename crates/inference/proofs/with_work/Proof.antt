@@ -44,13 +44,5 @@ pub with-work-spec : {M : Type 1} → statement M
 with-work-spec =
     tie.close
     (tie.spec
-    mul-cells
-    add-cells
-    mul-cells-2
-    slice-relend-prefix-principal
-    slice-aggregate-principal
-    principal-requires
-    clear-requires
-    same-length
-    same-length-2
-    returns)
+    mul-cells add-cells mul-cells-2 slice-relend-prefix-principal slice-aggregate-principal principal-requires
+    clear-requires same-length same-length-2 returns)

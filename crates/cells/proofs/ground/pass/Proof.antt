@@ -17,7 +17,7 @@ loop-holds : tie.Need-loop-holds Inv-loop μ-loop
 loop-holds c = (omega arith, progress-none (c .before .pre .0) (λ j h. absurd (omega arith)))
 
 visit-requires : tie.Need-visit-requires Inv-loop μ-loop
-visit-requires c κs = (c .before .before .loop .inv .1 .marking, omega arith)
+visit-requires c κs = record { marking = c .before .before .loop .inv .1 .marking; inside = omega arith }
 
 sub-visit : tie.Need-sub-visit Inv-loop μ-loop
 sub-visit c = omega arith
@@ -26,20 +26,18 @@ sub-visit-2 : tie.Need-sub-visit-2 Inv-loop μ-loop
 sub-visit-2 c = omega arith
 
 visit-requires-2 : tie.Need-visit-requires-2 Inv-loop μ-loop
-visit-requires-2 c κs = (c .before .before .before .visit .ensures .marking, omega arith)
+visit-requires-2 c κs = record { marking = c .before .before .before .visit .ensures .marking; inside = omega arith }
 
 add-new : tie.Need-add-new Inv-loop μ-loop
 add-new c =
-    let inv = c .before .before .before .before .before .before .before .before .before .loop .inv .1 in
-    let up = c .before .before .before .before .before .before .visit .ensures in
-    omega (arith, progress-bounded (progress-then inv up))
+    let up = c .before .before .before .before .before .before in
+    omega (arith, progress-bounded (progress-then (up .before .before .before .loop .inv .1) (up .visit .ensures)))
 
 add-new-2 : tie.Need-add-new-2 Inv-loop μ-loop
 add-new-2 c =
-    let inv = c .before .before .before .before .before .before .before .before .before .loop .inv .1 in
-    let up = c .before .before .before .before .before .before .visit .ensures in
-    let down = c .before .before .visit2 .ensures in
-    omega (arith, progress-bounded (pass-on inv up down))
+    let down = c .before .before in
+    let up = down .before .before .before .before in
+    omega (arith, progress-bounded (pass-on (up .before .before .before .loop .inv .1) (up .visit .ensures) (down .visit2 .ensures)))
 
 add-i : tie.Need-add-i Inv-loop μ-loop
 add-i c = omega arith
@@ -49,34 +47,22 @@ loop-less c = omega arith
 
 loop-again : tie.Need-loop-again Inv-loop μ-loop
 loop-again c =
-    let inv = c .before .before .before .before .before .before .before .before .before .loop .inv .1 in
-    let up = c .before .before .before .before .before .before .visit .ensures in
-    let down = c .before .before .visit2 .ensures in
-    (omega arith, pass-on inv up down)
+    let down = c .before .before in
+    let up = down .before .before .before .before in
+    (omega arith, pass-on (up .before .before .before .loop .inv .1) (up .visit .ensures) (down .visit2 .ensures))
 
 same-length : tie.Need-same-length Inv-loop μ-loop
 same-length c = c .before .loop .inv .1 .same .same-length
 
 returns : tie.Need-returns Inv-loop μ-loop
 returns c =
-    let all : c .before .loop .i ≡ c .before .before .before .args .n = omega arith in
-    rw all at (c .before .loop .inv .1)
+    let loop = c .before in
+    let all : loop .loop .i ≡ loop .before .before .args .n = omega arith in
+    rw all at (loop .loop .inv .1)
 
 pub pass-spec : {M : Type 1} → statement M
 pass-spec =
     tie.close
     (tie.spec
-    Inv-loop
-    μ-loop
-    loop-holds
-    visit-requires
-    sub-visit
-    sub-visit-2
-    visit-requires-2
-    add-new
-    add-new-2
-    add-i
-    loop-less
-    loop-again
-    same-length
-    returns)
+    Inv-loop μ-loop loop-holds visit-requires sub-visit sub-visit-2 visit-requires-2 add-new add-new-2 add-i loop-less
+    loop-again same-length returns)

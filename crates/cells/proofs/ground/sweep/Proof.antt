@@ -33,9 +33,7 @@ loop-less : tie.Need-loop-less Inv-loop μ-loop
 loop-less c = omega arith
 
 loop-again : tie.Need-loop-again Inv-loop μ-loop
-loop-again c =
-    let passed = c .before .before .before in
-    sweep-on (passed .before .before .before .loop .inv) (passed .pass .ensures)
+loop-again c = let passed = c .before .before .before in sweep-on (passed .before .before .before .loop .inv) (passed .pass .ensures)
 
 same-length-2 : tie.Need-same-length-2 Inv-loop μ-loop
 same-length-2 c = omega arith
@@ -47,14 +45,4 @@ pub sweep-spec : {M : Type 1} → statement M
 sweep-spec =
     tie.close
     (tie.spec
-    Inv-loop
-    μ-loop
-    loop-holds
-    pass-requires
-    same-length
-    returns
-    sub-left
-    loop-less
-    loop-again
-    same-length-2
-    returns-2)
+    Inv-loop μ-loop loop-holds pass-requires same-length returns sub-left loop-less loop-again same-length-2 returns-2)

@@ -26,26 +26,19 @@ loop-less : tie.Need-loop-less Inv-loop μ-loop
 loop-less c = omega arith
 
 loop-again : tie.Need-loop-again Inv-loop μ-loop
-loop-again c = (omega arith, unmark-more (c .before .before .before .before .before .loop .inv .1) (c .before .before .put-pair .ensures))
+loop-again c = let put = c .before .before in (omega arith, unmark-more (put .before .before .before .loop .inv .1) (put .put-pair .ensures))
 
 same-length : tie.Need-same-length Inv-loop μ-loop
 same-length c = c .before .loop .inv .1 .same .same-length
 
 returns : tie.Need-returns Inv-loop μ-loop
 returns c =
-    let all : c .before .loop .i ≡ c .before .before .before .args .n = omega arith in
-    rw all at (c .before .loop .inv .1)
+    let loop = c .before in
+    let all : loop .loop .i ≡ loop .before .before .args .n = omega arith in
+    rw all at (loop .loop .inv .1)
 
 pub unmark-spec : {M : Type 1} → statement M
 unmark-spec =
     tie.close
     (tie.spec
-    Inv-loop
-    μ-loop
-    loop-holds
-    put-pair-requires
-    add-i
-    loop-less
-    loop-again
-    same-length
-    returns)
+    Inv-loop μ-loop loop-holds put-pair-requires add-i loop-less loop-again same-length returns)

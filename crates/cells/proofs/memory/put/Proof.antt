@@ -43,14 +43,5 @@ pub put-spec : {M : Type 1} → statement M
 put-spec =
     tie.close
     (tie.spec
-    mul-at
-    mul-cells
-    slice-write-cells
-    add-cells
-    mul-cells-2
-    slice-write-cells-2
-    add-cells-2
-    mul-cells-3
-    slice-write-cells-3
-    same-length
-    returns)
+    mul-at mul-cells slice-write-cells add-cells mul-cells-2 slice-write-cells-2 add-cells-2 mul-cells-3
+    slice-write-cells-3 same-length returns)

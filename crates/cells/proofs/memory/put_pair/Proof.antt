@@ -37,12 +37,4 @@ pub put-pair-spec : {M : Type 1} → statement M
 put-pair-spec =
     tie.close
     (tie.spec
-    mul-at
-    add-cells
-    mul-cells
-    slice-write-cells
-    add-cells-2
-    mul-cells-2
-    slice-write-cells-2
-    same-length
-    returns)
+    mul-at add-cells mul-cells slice-write-cells add-cells-2 mul-cells-2 slice-write-cells-2 same-length returns)

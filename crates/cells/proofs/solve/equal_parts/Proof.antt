@@ -1,6 +1,6 @@
 -- `cells::solve::equal_parts` meets its contract.
-use Rattle.cells.specs.Saying.{parts-ready, parts-equal}
 use borrow.Author.Needs.{needs}
+use Rattle.cells.specs.Saying.{parts-ready, parts-equal}
 use Rattle.cells.proofs.solve.equal_parts.Statement.{statement}
 use Rattle.cells.proofs.solve.equal_parts.Tie as tie
 

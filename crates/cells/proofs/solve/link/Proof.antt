@@ -1,6 +1,6 @@
 -- `cells::solve::link` meets its contract.
-use Rattle.cells.specs.Meetings.{copied-meeting, free-meeting, base-meeting, arrow-meeting, clash-meeting}
 use borrow.Author.Needs.{needs}
+use Rattle.cells.specs.Meetings.{copied-meeting, free-meeting, base-meeting, arrow-meeting, clash-meeting}
 use Rattle.cells.proofs.solve.link.Statement.{statement}
 use Rattle.cells.proofs.solve.link.Tie as tie
 
@@ -61,16 +61,5 @@ pub link-spec : {M : Type 1} → statement M
 link-spec =
     tie.close
     (tie.spec
-    put-requires
-    put-requires-2
-    same-length
-    returns
-    put-requires-3
-    same-length-2
-    returns-2
-    returns-3
-    put-requires-4
-    same-length-3
-    returns-4
-    same-length-4
-    returns-5)
+    put-requires put-requires-2 same-length returns put-requires-3 same-length-2 returns-2 returns-3 put-requires-4
+    same-length-3 returns-4 same-length-4 returns-5)

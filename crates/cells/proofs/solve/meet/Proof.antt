@@ -1,6 +1,6 @@
 -- `cells::solve::meet` meets its contract.
-use Rattle.cells.specs.Meetings.{roots-ready, roots-meet}
 use borrow.Author.Needs.{needs}
+use Rattle.cells.specs.Meetings.{roots-ready, roots-meet}
 use Rattle.cells.proofs.solve.meet.Statement.{statement}
 use Rattle.cells.proofs.solve.meet.Tie as tie
 

@@ -1,6 +1,6 @@
 -- `cells::solve::meet_roots` meets its contract.
-use Rattle.cells.specs.Meetings.{self-meeting, meeting-turned}
 use borrow.Author.Needs.{needs}
+use Rattle.cells.specs.Meetings.{self-meeting, meeting-turned}
 use Rattle.cells.proofs.solve.meet_roots.Statement.{statement}
 use Rattle.cells.proofs.solve.meet_roots.Tie as tie
 
@@ -29,10 +29,4 @@ pub meet-roots-spec : {M : Type 1} → statement M
 meet-roots-spec =
     tie.close
     (tie.spec
-    returns
-    merge-requires
-    same-length
-    returns-2
-    merge-requires-2
-    same-length-2
-    returns-3)
+    returns merge-requires same-length returns-2 merge-requires-2 same-length-2 returns-3)

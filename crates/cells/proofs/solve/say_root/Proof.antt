@@ -1,6 +1,6 @@
 -- `cells::solve::say_root` meets its contract.
-use Rattle.cells.specs.Saying.{said-of-free, said-otherwise, said-again, arrows-ready, said-of-arrow}
 use borrow.Author.Needs.{needs}
+use Rattle.cells.specs.Saying.{said-of-free, said-otherwise, said-again, arrows-ready, said-of-arrow}
 use Rattle.cells.proofs.solve.say_root.Statement.{statement}
 use Rattle.cells.proofs.solve.say_root.Tie as tie
 
@@ -57,14 +57,5 @@ pub say-root-spec : {M : Type 1} → statement M
 say-root-spec =
     tie.close
     (tie.spec
-    get-requires
-    put-requires
-    same-length
-    returns
-    same-length-2
-    returns-2
-    same-length-3
-    returns-3
-    equal-parts-requires
-    same-length-4
-    returns-4)
+    get-requires put-requires same-length returns same-length-2 returns-2 same-length-3 returns-3 equal-parts-requires
+    same-length-4 returns-4)

@@ -9,9 +9,9 @@ get-requires c κs = search needs
 
 variable-requires : tie.Need-variable-requires
 variable-requires c κs =
-    let got = c .before .before .before in
-    let pre = got .before .before .before .pre in
-    (pre .0, pre .1 .inside, rw (got .get .ensures) at (c .before .if1 .taken))
+    let got = c .before .before in
+    let (ready, leaf) = got .before .before .before .pre in
+    (ready, leaf .inside, rw (got .get .ensures) at (c .before .if1 .taken))
 
 same-length : tie.Need-same-length
 same-length c = search needs
@@ -19,20 +19,19 @@ same-length c = search needs
 returns : tie.Need-returns
 returns c = search needs
 
-sub-t10 : tie.Need-sub-t10
-sub-t10 c = search needs
+sub-t11 : tie.Need-sub-t11
+sub-t11 c = search needs
 
 same-length-2 : tie.Need-same-length-2
 same-length-2 c = search needs
 
 returns-2 : tie.Need-returns-2
 returns-2 c =
-    let got = c .before .before .before in
-    let pre = got .before .before .before .pre in
-    let at-r = got .get .ensures in
-    rw at-r (base-spelled (pre .0) (pre .1) (rw at-r at (c .before .if1 .left)))
+    let got = c .before in
+    let (ready, leaf) = got .before .before .before .pre in
+    rw (got .get .ensures) (base-spelled ready leaf (rw (got .get .ensures) at (c .if1 .left)))
 
 pub leaf-spec : {M : Type 1} → statement M
 leaf-spec =
     tie.close
-    (tie.spec get-requires variable-requires same-length returns sub-t10 same-length-2 returns-2)
+    (tie.spec get-requires variable-requires same-length returns sub-t11 same-length-2 returns-2)

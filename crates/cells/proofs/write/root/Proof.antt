@@ -5,7 +5,7 @@ use Rattle.language.specs.Ty.{Ty}
 use Rattle.cells.specs.Cells.{Ev}
 use Rattle.cells.specs.Grounded.{ev-at}
 use Rattle.cells.specs.Layout.{storeOf}
-use Rattle.cells.specs.StoreLaws.{says-link}
+use Rattle.cells.specs.StoreLaws.{says-link, link-falls}
 use Rattle.cells.proofs.write.root.Statement.{statement}
 use Rattle.cells.proofs.write.root.Tie as tie
 
@@ -23,23 +23,20 @@ get-requires c κs = omega arith
 
 returns : tie.Need-returns Inv-loop μ-loop
 returns c =
-    let (below, same) = c .before .before .before .loop .inv in
-    record { below = below; no-link = rw (c .before .before .get .ensures) at (c .if1 .taken); same = same }
+    let got = c .before in
+    let (below, same) = got .before .loop .inv in
+    record { below = below; no-link = rw (got .get .ensures) at (c .if1 .taken); same = same }
 
 loop-less : tie.Need-loop-less Inv-loop μ-loop
-loop-less c =
-    let got = c .before .before in
-    let at-r = got .get .ensures in
-    let loop = got .before in
-    rw at-r (loop .before .before .pre .0 .allowed (loop .loop .r) .link-down (rw at-r at (c .if1 .left)))
+loop-less c = let got = c .before in link-falls (got .before .before .before .pre .0) (got .before .loop .r) (got .get .ensures) (c .if1 .left)
 
 loop-again : tie.Need-loop-again Inv-loop μ-loop
 loop-again c =
-    let got = c .before .before in
-    let loop = got .before in
-    let (below, same) = loop .loop .inv in
+    let got = c .before in
+    let loop = got .before .loop in
+    let link = says-link (got .before .before .before .args .cells .now) (loop .r) (got .get .ensures) (c .if1 .left) in
     let falls = loop-less c in
-    (omega arith, λ τ d. ev-at (says-link (loop .before .before .args .cells .now) (loop .loop .r) (got .get .ensures) (c .if1 .left)) (same τ d))
+    (omega arith, λ τ d. ev-at link (loop .inv .1 τ d))
 
 pub root-spec : {M : Type 1} → statement M
 root-spec =

@@ -57,17 +57,5 @@ pub condition-spec : {M : Type 1} → statement M
 condition-spec =
     tie.close
     (tie.spec
-    constant-requires
-    mul-both
-    add-both
-    mul-both-2
-    add-both-2
-    mul-both-3
-    add-both-3
-    mul-both-4
-    add-both-4
-    both-requires
-    same-length
-    returns
-    same-length-2
-    returns-2)
+    constant-requires mul-both add-both mul-both-2 add-both-2 mul-both-3 add-both-3 mul-both-4 add-both-4 both-requires
+    same-length returns same-length-2 returns-2)

@@ -14,9 +14,7 @@ enum-told : tie.Need-enum-told
 enum-told c = search needs
 
 returns : tie.Need-returns
-returns c =
-    let asked = c .before .before in
-    unbound-solved (asked .before .before .before .pre) (asked .binder .ensures) (c .enum-told .given .1)
+returns c = let asked = c .before .before in unbound-solved (asked .before .before .before .pre) (asked .binder .ensures) (c .enum-told .given .1)
 
 bound-at-requires : tie.Need-bound-at-requires
 bound-at-requires c κs =
@@ -38,10 +36,4 @@ pub name-spec : {M : Type 1} → statement M
 name-spec =
     tie.close
     (tie.spec
-    binder-requires
-    enum-known-bound
-    enum-told
-    returns
-    bound-at-requires
-    same-length
-    returns-2)
+    binder-requires enum-known-bound enum-told returns bound-at-requires same-length returns-2)

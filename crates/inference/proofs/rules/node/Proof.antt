@@ -25,19 +25,13 @@ condition-requires c κs =
     condition-ready (got .before .before .before .pre) (got .read .ensures) (c .before .match .keys4)
 
 lambda-requires : tie.Need-lambda-requires
-lambda-requires c κs =
-    let got = c .before .before in
-    lambda-ready (got .before .before .before .pre) (got .read .ensures) (c .before .match .keys5)
+lambda-requires c κs = let got = c .before .before in lambda-ready (got .before .before .before .pre) (got .read .ensures) (c .before .match .keys5)
 
 let-in-requires : tie.Need-let-in-requires
-let-in-requires c κs =
-    let got = c .before .before in
-    let-ready (got .before .before .before .pre) (got .read .ensures) (c .before .match .keys6)
+let-in-requires c κs = let got = c .before .before in let-ready (got .before .before .before .pre) (got .read .ensures) (c .before .match .keys6)
 
 rec-requires : tie.Need-rec-requires
-rec-requires c κs =
-    let got = c .before .before in
-    rec-ready (got .before .before .before .pre) (got .read .ensures) (c .before .match .keys7)
+rec-requires c κs = let got = c .before .before in rec-ready (got .before .before .before .pre) (got .read .ensures) (c .before .match .keys7)
 
 add-constant : tie.Need-add-constant
 add-constant c = search needs
@@ -143,32 +137,7 @@ pub node-spec : {M : Type 1} → statement M
 node-spec =
     tie.close
     (tie.spec
-    read-requires
-    operator-requires
-    name-requires
-    application-requires
-    condition-requires
-    lambda-requires
-    let-in-requires
-    rec-requires
-    add-constant
-    constant-requires
-    constant-requires-2
-    same-length
-    returns
-    same-length-2
-    returns-2
-    same-length-3
-    returns-3
-    same-length-4
-    returns-4
-    same-length-5
-    returns-5
-    same-length-6
-    returns-6
-    same-length-7
-    returns-7
-    same-length-8
-    returns-8
-    same-length-9
-    returns-9)
+    read-requires operator-requires name-requires application-requires condition-requires lambda-requires
+    let-in-requires rec-requires add-constant constant-requires constant-requires-2 same-length returns same-length-2
+    returns-2 same-length-3 returns-3 same-length-4 returns-4 same-length-5 returns-5 same-length-6 returns-6
+    same-length-7 returns-7 same-length-8 returns-8 same-length-9 returns-9)

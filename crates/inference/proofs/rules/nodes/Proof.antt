@@ -64,14 +64,4 @@ pub nodes-spec : {M : Type 1} → statement M
 nodes-spec =
     tie.close
     (tie.spec
-    Inv-loop
-    μ-loop
-    loop-holds
-    node-requires
-    add-k
-    loop-less
-    loop-again
-    same-length
-    returns
-    same-length-2
-    returns-2)
+    Inv-loop μ-loop loop-holds node-requires add-k loop-less loop-again same-length returns same-length-2 returns-2)

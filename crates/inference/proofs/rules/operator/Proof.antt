@@ -26,9 +26,7 @@ same-length : tie.Need-same-length
 same-length c = search needs
 
 returns : tie.Need-returns
-returns c =
-    let said = c .before .before in
-    rw (said .before .gives-cell .ensures) at (said .say .ensures)
+returns c = let said = c .before .before in rw (said .before .gives-cell .ensures) at (said .say .ensures)
 
 pub operator-spec : {M : Type 1} → statement M
 operator-spec =
