@@ -15,7 +15,7 @@ entry-once one answered (part-of-a-node p c) (whole-nodes q b) = absurd (p q)
 entry-once one answered (whole-nodes p a) (part-of-a-node q d) = absurd (q p)
 entry-once one answered (whole-nodes p a) (whole-nodes q b) = answered a b
 
-infers-to-once : {words work typeWords out out₁ out₂ : List ℕ} {r₁ r₂ : ℕ} → InfersTo words work typeWords out out₁ r₁ → InfersTo words work typeWords out out₂ r₂ → (r₁ ≡ r₂) × (out₁ ≡ out₂)
+pub infers-to-once : {words work typeWords out out₁ out₂ : List ℕ} {r₁ r₂ : ℕ} → InfersTo words work typeWords out out₁ r₁ → InfersTo words work typeWords out out₂ r₂ → (r₁ ≡ r₂) × (out₁ ≡ out₂)
 infers-to-once {out = out} x y =
     let same = infers-once (x .infers) (y .infers) in
     (x .number ∙ ap (λ a. packed (inferredCode (a .answer)) (placeOf (a .answer))) same ∙ sym (y .number), x .out-after ∙ ap (λ a. outAfter (a .answer) (a .out) out) same ∙ sym (y .out-after))
@@ -23,7 +23,7 @@ infers-to-once {out = out} x y =
 pub infer-entry-once : {table out out₁ out₂ : List ℕ} {r₁ r₂ : ℕ} → InferEntry table out out₁ r₁ → InferEntry table out out₂ r₂ → (r₁ ≡ r₂) × (out₁ ≡ out₂)
 infer-entry-once = entry-once (λ (r, o) (r′, o′). (r ∙ sym r′, o ∙ sym o′)) infers-to-once
 
-runs-to-once : {words : List ℕ} {fuel r₁ r₂ : ℕ} → RunsTo words fuel r₁ → RunsTo words fuel r₂ → r₁ ≡ r₂
+pub runs-to-once : {words : List ℕ} {fuel r₁ r₂ : ℕ} → RunsTo words fuel r₁ → RunsTo words fuel r₂ → r₁ ≡ r₂
 runs-to-once x y =
     let (same, _, _) = run-determined (x .runs) (y .runs) in
     x .number ∙ ap (λ ran. packed (codeOf (ran .answer)) (payloadOf (ran .answer))) same ∙ sym (y .number)

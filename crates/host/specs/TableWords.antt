@@ -1,15 +1,14 @@
 -- The table of an entry: its length, and its words.
 use Prim.Native.Nat.{ℕ, _/_, _%_, _≤_, _<_}
-use mathlib.Core.Path.{_≡_, refl, sym, _∙_, ap, subst}
+use mathlib.Core.Path.{_≡_, refl, sym, subst}
 use mathlib.Core.Logic.{_≢_}
-use mathlib.Core.Bool.{Bool, true, false, not, _||_}
-use mathlib.Core.List.{List, _++_}
+use mathlib.Core.Bool.{Bool, true, false, cond, not, _||_}
+use mathlib.Core.List.{List, []}
 use native.Mathlib.Omega.{arith}
 use lib.Dec.{eqb, ltb}
-use lib.ListN.{length, take, drop, length-replicate}
+use lib.ListN.{length, take, drop}
 use lib.Seq.{take-at, length-sets}
 use borrow.Author.Tests.{lt-ltb, eqb-true, eqb-false, ltb-true, ltb-false}
-use Rattle.lent.specs.Cleared.{zeros}
 use Rattle.lent.specs.Bytes.{fromBytes, overwrite}
 use Rattle.lent.specs.Writing.{overwrite-fits}
 use Rattle.lent.specs.ByteLaws.{length-fromBytes}
@@ -18,8 +17,9 @@ use Rattle.acceptance.specs.declared.Verdict.the-variants.{Refused as Turned}
 use Rattle.inference.specs.Inference.{leaves, turned}
 use Rattle.inference.specs.declared.Inferred.the-variants.{Refused}
 use Rattle.machine.specs.Runs.{refusedAs}
-use Rattle.machine.specs.RunCall.{refused-run}
-use Rattle.host.specs.Entries.{packed, Entry, part-of-a-node, whole-nodes, InfersOn, InferEntry, RunsTo, RunEntry}
+use Rattle.machine.specs.RunCall as Machine
+use Rattle.host.specs.Entries.{packed, Entry, part-of-a-node, whole-nodes, InfersTo, InfersOn, InferEntry, RunsTo, RunEntry}
+use Rattle.host.specs.EntriesOnce.{infers-to-once, runs-to-once}
 use Rattle.host.specs.Rooms.{wrongLength}
 
 -- ---- Its length
@@ -46,42 +46,72 @@ long-is-refused : (words : List ℕ) → 2048 < length words → checkOf words �
 unfolding checkOf
 long-is-refused words above = rw (lt-ltb 2048 (length words) above, or-true (eqb (length words) 0) (not (eqb (length words % 4) 0)))
 
-module _ (table : List ℕ) where
-  wrong-length : {CodeOne Answered : Type 0} → LengthIs (length table) true → CodeOne → (checkOf (fromBytes table) ≡ Turned 1 0 → Answered) → Entry table CodeOne Answered
-  wrong-length (part p) one answered = part-of-a-node p one
-  wrong-length (long w above) one answered = whole-nodes w (answered (long-is-refused (fromBytes table) (omega (arith, length-fromBytes table))))
+-- ---- Its words
 
-  module _ (is : wrongLength (length table) ≡ true) where
-    pub refused-infer-answer : {out : List ℕ} {r : ℕ} → r ≡ packed 1 0 → InferEntry table out out r
-    refused-infer-answer one = wrong-length (length-is (length table) is) (one, refl) (λ refused. record { after = leaves (Refused 1 0) _ _; infers = turned refused refl; number = one; out-after = refl })
+-- A table of a wrong length is read as one without words, which is code 1 too.
+abbrev pub tableWords : List ℕ → List ℕ
+tableWords table = cond (wrongLength (length table)) [] (fromBytes table)
 
-    pub refused-run-answer : {fuel r : ℕ} → r ≡ packed 1 0 → RunEntry table fuel r
-    refused-run-answer one = wrong-length (length-is (length table) is) one (λ refused. record { ran = refusedAs 1 0; bindings-after = _; frames-after = _; runs = refused-run (sym refused) refl; number = one })
+-- The first n words are the table's.
+pub record TableRead (table words : List ℕ) (n : ℕ) : Type 0 where
+  pub within : n ≤ length words
+  pub are : take n words ≡ tableWords table
 
-  -- ---- Its words
+pub none-read : (table words : List ℕ) → wrongLength (length table) ≡ true → TableRead table words 0
+none-read table words wrong = record { within = omega arith; are = rw wrong }
 
-  right-length : LengthIs (length table) false → (length table % 16 ≡ 0) × (length table / 4 ≤ 2048)
-  right-length (right w few) = (w, omega arith)
+pub all-read : (table words₀ : List ℕ) {words : List ℕ} → wrongLength (length table) ≡ false → length words₀ ≡ 2048 → words ≡ overwrite (fromBytes table) words₀ → TableRead table words (length table / 4)
+all-read table words₀ {words} right-length size is = go (length-is (length table) right-length)
+  where
+    go : LengthIs (length table) false → TableRead table words (length table / 4)
+    go (right whole few) =
+        let fits : length (fromBytes table) ≤ length words₀ = omega (arith, length-fromBytes table) in
+        record {
+          within = rw (is, length-sets words₀ 0 (fromBytes table)) (omega arith);
+          are = rw (is, overwrite-fits (fromBytes table) words₀ fits, right-length) (take-at (fromBytes table) (drop (length (fromBytes table)) words₀) (length table / 4) (length-fromBytes table));
+        }
 
-  module _ (is : wrongLength (length table) ≡ false) where
-    nodes-and-words : (length table % 16 ≡ 0) × (length table / 4 ≤ 2048)
-    nodes-and-words = right-length (length-is (length table) is)
+-- ---- A table of code 1
 
-    module _ {words : List ℕ} (read : words ≡ overwrite (fromBytes table) (zeros 2048)) where
-      words-are : words ≡ fromBytes table ++ drop (length (fromBytes table)) (zeros 2048)
-      words-are = read ∙ overwrite-fits (fromBytes table) (zeros 2048) (rw (length-fromBytes table, length-replicate) (nodes-and-words .1))
+module _ {words : List ℕ} (one : checkOf words ≡ Turned 1 0) where
+  refused-infer : {work typeWords out out′ : List ℕ} {r : ℕ} → (r ≡ packed 1 0) × (out′ ≡ out) → InfersTo words work typeWords out out′ r
+  refused-infer (number, kept) = record { after = leaves (Refused 1 0) _ _; infers = turned one refl; number = number; out-after = kept }
 
-      pub words-within : length table / 4 ≤ length words
-      words-within = rw (ap length read ∙ length-sets (zeros 2048) 0 (fromBytes table) ∙ length-replicate {A = ℕ} 2048 0) (nodes-and-words .1)
+  infer-refused : {work typeWords out out′ : List ℕ} {r : ℕ} → InfersTo words work typeWords out out′ r → (r ≡ packed 1 0) × (out′ ≡ out)
+  infer-refused i = infers-to-once i (refused-infer (refl, refl))
 
-      first-words : take (length table / 4) words ≡ fromBytes table
-      first-words = rw words-are (take-at (fromBytes table) (drop (length (fromBytes table)) (zeros 2048)) (length table / 4) (length-fromBytes table))
+  refused-run : {fuel r : ℕ} → r ≡ packed 1 0 → RunsTo words fuel r
+  refused-run number = record { ran = refusedAs 1 0; bindings-after = _; frames-after = _; runs = Machine.refused-run (sym one) refl; number = number }
 
-      pub length-first-words : length (take (length table / 4) words) ≡ length table / 4
-      length-first-words = ap length first-words ∙ length-fromBytes table
+  run-refused : {fuel r : ℕ} → RunsTo words fuel r → r ≡ packed 1 0
+  run-refused i = runs-to-once i (refused-run refl)
 
-      pub answered-infer : {out out′ : List ℕ} {r : ℕ} → InfersOn (take (length table / 4) words) out out′ r → InferEntry table out out′ r
-      answered-infer i = whole-nodes (nodes-and-words .0) (rw first-words at i)
+none-is-refused : checkOf [] ≡ Turned 1 0
+unfolding checkOf
+none-is-refused = refl
 
-      pub answered-run : {fuel r : ℕ} → RunsTo (take (length table / 4) words) fuel r → RunEntry table fuel r
-      answered-run i = whole-nodes (nodes-and-words .0) (rw first-words at i)
+-- ---- The entries
+
+module _ {table words : List ℕ} {n : ℕ} (read : TableRead table words n) where
+  -- What is answered of the words that are read is answered of the table, if the answer to code 1 is one.
+  answered : {CodeOne : Type 0} (Answered : List ℕ → Type 0) → ((words : List ℕ) → checkOf words ≡ Turned 1 0 → CodeOne → Answered words) →
+      ((words : List ℕ) → checkOf words ≡ Turned 1 0 → Answered words → CodeOne) → Answered (take n words) → Entry table CodeOne (Answered (fromBytes table))
+  answered {CodeOne} Answered refused-as as-refused a = go (wrongLength (length table)) refl (subst Answered (read .are) a)
+    where
+      go : (wrong : Bool) → wrongLength (length table) ≡ wrong → Answered (cond wrong [] (fromBytes table)) → Entry table CodeOne (Answered (fromBytes table))
+      go true e a = wrong-length (length-is (length table) e)
+        where
+          wrong-length : LengthIs (length table) true → Entry table CodeOne (Answered (fromBytes table))
+          wrong-length (part p) = part-of-a-node p (as-refused [] none-is-refused a)
+          wrong-length (long w above) =
+              whole-nodes w (refused-as (fromBytes table) (long-is-refused (fromBytes table) (omega (arith, length-fromBytes table))) (as-refused [] none-is-refused a))
+      go false e a = right-length (length-is (length table) e)
+        where
+          right-length : LengthIs (length table) false → Entry table CodeOne (Answered (fromBytes table))
+          right-length (right w few) = whole-nodes w a
+
+  pub infer-answered : {out out′ : List ℕ} {r : ℕ} → InfersOn (take n words) out out′ r → InferEntry table out out′ r
+  infer-answered {out} {out′} {r} i = answered (λ words. InfersOn words out out′ r) (λ words one. refused-infer one) (λ words one. infer-refused one) i
+
+  pub run-answered : {fuel r : ℕ} → RunsTo (take n words) fuel r → RunEntry table fuel r
+  run-answered {fuel} {r} i = answered (λ words. RunsTo words fuel r) (λ words one. refused-run one) (λ words one. run-refused one) i

@@ -1,47 +1,36 @@
 -- `host::iltgovruz_run` meets its contract.
-use mathlib.Core.Path.{sym, _∙_}
-use Rattle.host.specs.TableWords.{refused-run-answer, words-within, length-first-words, answered-run}
+use Rattle.host.specs.TableWords.{run-answered}
 use borrow.Author.Needs.{needs}
+use lib.Seq.{length-take-le}
+use mathlib.Core.Path.{sym}
 use Rattle.host.proofs.iltgovruz_run.Statement.{statement}
 use Rattle.host.proofs.iltgovruz_run.Tie as tie
 
-wrong-length-requires : tie.Need-wrong-length-requires
-wrong-length-requires c κs = search needs
+slice-aggregate-read-table : tie.Need-slice-aggregate-read-table
+slice-aggregate-read-table c = search needs
 
-pack-requires : tie.Need-pack-requires
-pack-requires c κs = search needs
-
-returns : tie.Need-returns
-returns c = refused-run-answer (c .before .before .before .before .args .table .now) (sym (c .before .before .wrong-length .ensures) ∙ c .before .if1 .taken) (c .pack .ensures)
-
-slice-aggregate-read-words : tie.Need-slice-aggregate-read-words
-slice-aggregate-read-words c = search needs
-
-read-words-requires : tie.Need-read-words-requires
-read-words-requires c κs = search needs
+read-table-requires : tie.Need-read-table-requires
+read-table-requires c κs = search needs
 
 array-share-prefix-words : tie.Need-array-share-prefix-words
-array-share-prefix-words c = words-within (c .before .before .before .before .before .before .args .table .now) (sym (c .before .before .before .before .wrong-length .ensures) ∙ c .before .before .before .if1 .left) (c .before .read-words .ensures)
+array-share-prefix-words c = search needs
 
 slice-aggregate-run-words : tie.Need-slice-aggregate-run-words
-slice-aggregate-run-words c = sym (length-first-words (c .before .before .before .before .before .before .before .args .table .now) (sym (c .before .before .before .before .before .wrong-length .ensures) ∙ c .before .before .before .before .if1 .left) (c .before .before .read-words .ensures))
+slice-aggregate-run-words c = sym (length-take-le _ _ (c .before .before .read-table .ensures .within))
 
 run-words-requires : tie.Need-run-words-requires
 run-words-requires c κs = search needs
 
-returns-2 : tie.Need-returns-2
-returns-2 c = answered-run (c .before .before .before .before .before .before .before .before .args .table .now) (sym (c .before .before .before .before .before .before .wrong-length .ensures) ∙ c .before .before .before .before .before .if1 .left) (c .before .before .before .read-words .ensures) (c .run-words .ensures)
+returns : tie.Need-returns
+returns c = run-answered (c .before .before .before .read-table .ensures) (c .run-words .ensures)
 
 pub iltgovruz-run-spec : {M : Type 1} → statement M
 iltgovruz-run-spec =
     tie.close
     (tie.spec
-    wrong-length-requires
-    pack-requires
-    returns
-    slice-aggregate-read-words
-    read-words-requires
+    slice-aggregate-read-table
+    read-table-requires
     array-share-prefix-words
     slice-aggregate-run-words
     run-words-requires
-    returns-2)
+    returns)

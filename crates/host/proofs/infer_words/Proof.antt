@@ -1,7 +1,8 @@
 -- `host::infer_words` meets its contract: it lends as many words for the type as `out` has, and they are zero.
-use mathlib.Core.Path.{sym}
-use Rattle.host.specs.TypeBytes.{room-few, room-lent, out-room, infers-on}
+use Rattle.host.specs.TypeBytes.{room-lent, out-room, infers-on}
 use borrow.Author.Needs.{needs}
+use mathlib.Core.Path.{sym}
+use native.Mathlib.Omega.{arith}
 use Rattle.host.proofs.infer_words.Statement.{statement}
 use Rattle.host.proofs.infer_words.Tie as tie
 
@@ -12,19 +13,26 @@ slice-aggregate-infer-on : tie.Need-slice-aggregate-infer-on
 slice-aggregate-infer-on c = search needs
 
 array-borrow-prefix-types : tie.Need-array-borrow-prefix-types
-array-borrow-prefix-types c = room-few (c .before .before .before .before .args .out .now) (c .before .out-words .ensures)
+array-borrow-prefix-types c = omega arith
 
 slice-aggregate-infer-on-2 : tie.Need-slice-aggregate-infer-on-2
-slice-aggregate-infer-on-2 c = sym (room-lent (c .before .before .before .before .before .args .out .now) (c .before .before .out-words .ensures))
+slice-aggregate-infer-on-2 c =
+    let counted = c .before .before in
+    sym (room-lent (counted .before .before .before .args .out .now) (counted .out-words .ensures))
 
 infer-on-requires : tie.Need-infer-on-requires
-infer-on-requires c κs = out-room (c .before .before .before .before .before .before .args .out .now) (c .before .before .before .out-words .ensures)
+infer-on-requires c κs =
+    let counted = c .before .before .before in
+    out-room (counted .before .before .before .args .out .now) (counted .out-words .ensures)
 
 same-length : tie.Need-same-length
 same-length c = search needs
 
 returns : tie.Need-returns
-returns c = infers-on (c .before .before .before .before .before .before .before .before .before .before .before .args .out .now) (c .before .before .before .before .before .before .before .before .out-words .ensures) (c .before .before .before .before .infer-on .ensures)
+returns c =
+    let inferred = c .before .before .before .before in
+    let counted = inferred .before .before .before .before in
+    infers-on (counted .before .before .before .args .out .now) (counted .out-words .ensures) (inferred .infer-on .ensures)
 
 pub infer-words-spec : {M : Type 1} → statement M
 infer-words-spec =

@@ -22,13 +22,15 @@ pack-requires : tie.Need-pack-requires
 pack-requires c κs = search needs
 
 returns : tie.Need-returns
-returns c = record {
-  ran = _;
-  bindings-after = _;
-  frames-after = _;
-  runs = c .before .before .before .before .before .run .ensures;
-  number = rw (c .before .before .code .ensures, c .before .payload .ensures) at (c .pack .ensures);
-}
+returns c =
+    let told = c .before .before in
+    record {
+      ran = _;
+      bindings-after = _;
+      frames-after = _;
+      runs = told .before .before .before .run .ensures;
+      number = rw (told .code .ensures, c .before .payload .ensures) at (c .pack .ensures);
+    }
 
 pub run-words-spec : {M : Type 1} → statement M
 run-words-spec =

@@ -56,7 +56,9 @@ array-share-prefix-words : tie.Need-array-share-prefix-words
 array-share-prefix-words c = search needs
 
 slice-aggregate-make-call : tie.Need-slice-aggregate-make-call
-slice-aggregate-make-call c = sym (length-take-le _ (c .before .before .read-words .last .1 .0) (omega (arith, c .before .before .read-words .kept .1 .0)))
+slice-aggregate-make-call c =
+    let read = c .before .before .read-words in
+    sym (length-take-le _ (read .last .1 .0) (omega (arith, read .kept .1 .0)))
 
 make-call-requires : tie.Need-make-call-requires
 make-call-requires c κs = search needs
