@@ -23,7 +23,7 @@ pub started-ready : {words : List ℕ} {n : ℕ} {before new : List ℕ} → Tre
 started-ready r s = record {
   tree-in = r .tree-in;
   cells = record {
-    sound = started-sound s (omega (arith, r .whole)) (omega (arith, r .whole, r .small));
+    sound = started-sound s (omega (arith, r .whole)) (omega (arith, r .whole)) (omega (arith, r .whole, r .small));
     whole = s .same-length ∙ r .whole;
     constants = λ ρ. started-constants s ρ .0;
   };

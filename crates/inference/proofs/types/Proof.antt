@@ -1,5 +1,4 @@
 -- `inference::types` meets its contract.
-use mathlib.Core.Path.{_∙_}
 use borrow.Author.Needs.{needs}
 use Rattle.cells.specs.Outcomes.{outcome-is, met-sound}
 use Rattle.inference.specs.TableLaws.{started-ready}
@@ -13,19 +12,10 @@ start-requires c κs = search needs
 nodes-requires : tie.Need-nodes-requires
 nodes-requires c κs = let new = c .before .before .before in started-ready (new .before .before .before .before .pre) (new .start .ensures)
 
-mul-grounded : tie.Need-mul-grounded
-mul-grounded c = search needs
-
-add-grounded : tie.Need-add-grounded
-add-grounded c = search needs
-
 grounded-requires : tie.Need-grounded-requires
 grounded-requires c κs =
     let solved = c .before .before .before .before in
-    let new = solved .before .before .before .before in
-    let room = new .before .before .before .before .pre in
-    let same = solved .nodes .ensures .same-length ∙ new .start .ensures .same-length ∙ room .whole in
-    (met-sound (solved .nodes .ensures) (c .before .if1 .taken), same)
+    met-sound (solved .nodes .ensures) (c .before .if1 .taken)
 
 same-length : tie.Need-same-length
 same-length c = search needs
@@ -53,5 +43,5 @@ pub types-spec : {M : Type 1} → statement M
 types-spec =
     tie.close
     (tie.spec
-    start-requires nodes-requires mul-grounded add-grounded grounded-requires same-length returns same-length-2
+    start-requires nodes-requires grounded-requires same-length returns same-length-2
     returns-2)
