@@ -6,7 +6,6 @@ pub use scan::end;
 pub use scan::feed;
 pub use text::bytes;
 pub use text::integer;
-pub use text::number;
 pub use text::numbers;
 
 // Where a scan stands.

@@ -30,7 +30,7 @@ pub fn bytes(source: &[u8], text: &mut [u8], at: usize) -> usize
 }
 
 // A number has ten digits at most: those before the last one, then that one.
-pub fn number(n: u32, text: &mut [u8], at: usize) -> usize
+fn number(n: u32, text: &mut [u8], at: usize) -> usize
     ensures { λ next. ⌜ WrittenWithin 10 (now (text .entry)) at (decimal n) (now (text .exit)) next ⌝ }
 {
     let last = 48 + (n % 10) as u8;
