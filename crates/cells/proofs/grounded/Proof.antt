@@ -5,20 +5,11 @@ use Rattle.cells.specs.GroundLaws.{all-unmarked, tested-since}
 use Rattle.cells.proofs.grounded.Statement.{statement}
 use Rattle.cells.proofs.grounded.Tie as tie
 
-cast-n : tie.Need-cast-n
-cast-n c = search needs
-
-unmark-requires : tie.Need-unmark-requires
-unmark-requires c κs = search needs
-
 sweep-requires : tie.Need-sweep-requires
 sweep-requires c κs =
     let cleared = c .before .before .before in
     let whole = cleared .before .before .before .pre .whole in
     (all-unmarked whole (cleared .unmark .ensures), omega arith)
-
-same-length : tie.Need-same-length
-same-length c = search needs
 
 returns : tie.Need-returns
 returns c =
@@ -27,4 +18,4 @@ returns c =
     tested-since (cleared .unmark .ensures .same) (swept .sweep .ensures)
 
 pub grounded-spec : {M : Type 1} → statement M
-grounded-spec = tie.close (tie.spec cast-n unmark-requires sweep-requires same-length returns)
+grounded-spec = tie.close (tie.spec (λ c. search needs) (λ c κs. search needs) sweep-requires (λ c. search needs) returns)

@@ -4,14 +4,8 @@ use Rattle.cells.specs.Saying.{root-ready, said-of-root}
 use Rattle.cells.proofs.say.Statement.{statement}
 use Rattle.cells.proofs.say.Tie as tie
 
-find-requires : tie.Need-find-requires
-find-requires c κs = search needs
-
 say-root-requires : tie.Need-say-root-requires
 say-root-requires c κs = let found = c .before .before .before in root-ready (found .find .ensures) (found .before .before .before .pre .2)
-
-same-length : tie.Need-same-length
-same-length c = search needs
 
 returns : tie.Need-returns
 returns c =
@@ -20,4 +14,4 @@ returns c =
     said-of-root (found .before .before .before .args .c) (found .find .ensures) (said .say-root .ensures)
 
 pub say-spec : {M : Type 1} → statement M
-say-spec = tie.close (tie.spec find-requires say-root-requires same-length returns)
+say-spec = tie.close (tie.spec (λ c κs. search needs) say-root-requires (λ c. search needs) returns)

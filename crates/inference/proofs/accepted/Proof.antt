@@ -7,17 +7,8 @@ use Rattle.inference.specs.InferCall.{room-for-work, answered}
 use Rattle.inference.proofs.accepted.Statement.{statement}
 use Rattle.inference.proofs.accepted.Tie as tie
 
-mul-size : tie.Need-mul-size
-mul-size c = search needs
-
-add-size : tie.Need-add-size
-add-size c = search needs
-
 returns : tie.Need-returns
 returns c = work-short (c .before .before .before .before .pre) (omega (arith, c .if1 .taken)) refl
-
-slice-relend-prefix-with-work : tie.Need-slice-relend-prefix-with-work
-slice-relend-prefix-with-work c = search needs
 
 slice-aggregate-with-work : tie.Need-slice-aggregate-with-work
 slice-aggregate-with-work c =
@@ -28,12 +19,6 @@ with-work-requires : tie.Need-with-work-requires
 with-work-requires c κs =
     let start = c .before .before .before .before .before .before in
     room-for-work (start .pre) (start .args .work .now) (c .before .before .if1 .left)
-
-same-length : tie.Need-same-length
-same-length c = search needs
-
-same-length-2 : tie.Need-same-length-2
-same-length-2 c = search needs
 
 returns-2 : tie.Need-returns-2
 returns-2 c =
@@ -46,5 +31,5 @@ pub accepted-spec : {M : Type 1} → statement M
 accepted-spec =
     tie.close
     (tie.spec
-    mul-size add-size returns slice-relend-prefix-with-work slice-aggregate-with-work with-work-requires same-length
-    same-length-2 returns-2)
+    (λ c. search needs) (λ c. search needs) returns (λ c. search needs) slice-aggregate-with-work with-work-requires (λ c. search needs)
+    (λ c. search needs) returns-2)

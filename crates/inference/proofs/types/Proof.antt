@@ -6,9 +6,6 @@ use Rattle.inference.specs.Principality.{clash-found, tested-found}
 use Rattle.inference.proofs.types.Statement.{statement}
 use Rattle.inference.proofs.types.Tie as tie
 
-start-requires : tie.Need-start-requires
-start-requires c κs = search needs
-
 nodes-requires : tie.Need-nodes-requires
 nodes-requires c κs = let new = c .before .before .before in started-ready (new .before .before .before .before .pre) (new .start .ensures)
 
@@ -16,9 +13,6 @@ grounded-requires : tie.Need-grounded-requires
 grounded-requires c κs =
     let solved = c .before .before .before .before in
     met-sound (solved .nodes .ensures) (c .before .if1 .taken)
-
-same-length : tie.Need-same-length
-same-length c = search needs
 
 returns : tie.Need-returns
 returns c =
@@ -28,9 +22,6 @@ returns c =
     let new = solved .before .before .before .before in
     let room = new .before .before .before .before .pre in
     tested-found room (new .start .ensures) (outcome-is (solved .nodes .ensures) (asked .if1 .taken)) _ (tested .grounded .ensures)
-
-same-length-2 : tie.Need-same-length-2
-same-length-2 c = search needs
 
 returns-2 : tie.Need-returns-2
 returns-2 c =
@@ -43,5 +34,5 @@ pub types-spec : {M : Type 1} → statement M
 types-spec =
     tie.close
     (tie.spec
-    start-requires nodes-requires grounded-requires same-length returns same-length-2
+    (λ c κs. search needs) nodes-requires grounded-requires (λ c. search needs) returns (λ c. search needs)
     returns-2)

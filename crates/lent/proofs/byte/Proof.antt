@@ -5,18 +5,6 @@ use borrow.Author.Needs.{needs}
 use Rattle.lent.proofs.byte.Statement.{statement}
 use Rattle.lent.proofs.byte.Tie as tie
 
-cast-result : tie.Need-cast-result
-cast-result c = search needs
-
-cast-result-2 : tie.Need-cast-result-2
-cast-result-2 c = search needs
-
-cast-result-3 : tie.Need-cast-result-3
-cast-result-3 c = search needs
-
-cast-result-4 : tie.Need-cast-result-4
-cast-result-4 c = search needs
-
 returns : tie.Need-returns
 returns c = rw (c .match .keys1)
 
@@ -35,10 +23,10 @@ pub byte-spec : {M : Type 1} → statement M
 byte-spec =
     tie.close
     (tie.spec
-    cast-result
-    cast-result-2
-    cast-result-3
-    cast-result-4
+    (λ c. search needs)
+    (λ c. search needs)
+    (λ c. search needs)
+    (λ c. search needs)
     returns
     returns-2
     returns-3

@@ -19,23 +19,8 @@ smaller-requires c κs = tt
 loop-holds : tie.Need-loop-holds Inv-loop μ-loop
 loop-holds c = writing-starts
 
-mul-word-at : tie.Need-mul-word-at Inv-loop μ-loop
-mul-word-at c = omega arith
-
-word-at-requires : tie.Need-word-at-requires Inv-loop μ-loop
-word-at-requires c κs = omega arith
-
-mul-words : tie.Need-mul-words Inv-loop μ-loop
-mul-words c = omega arith
-
 slice-write-words : tie.Need-slice-write-words Inv-loop μ-loop
 slice-write-words c = omega (arith, length-kept (c .before .before .loop .inv))
-
-add-i : tie.Need-add-i Inv-loop μ-loop
-add-i c = omega arith
-
-loop-less : tie.Need-loop-less Inv-loop μ-loop
-loop-less c = omega arith
 
 loop-again : tie.Need-loop-again Inv-loop μ-loop
 loop-again c = word-read _ (c .before .before .loop .inv) (omega arith) (c .word-at .ensures)
@@ -54,12 +39,12 @@ read-words-spec =
     μ-loop
     smaller-requires
     loop-holds
-    mul-word-at
-    word-at-requires
-    mul-words
+    (λ c. omega arith)
+    (λ c κs. omega arith)
+    (λ c. omega arith)
     slice-write-words
-    add-i
-    loop-less
+    (λ c. omega arith)
+    (λ c. omega arith)
     loop-again
     same-length
     returns)

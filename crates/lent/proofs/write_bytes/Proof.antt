@@ -13,32 +13,14 @@ Inv-loop words bytes₀ n i₀ bytes i = Writing (toBytes words) bytes₀ 0 byte
 abbrev μ-loop : tie.MeasureT-loop
 μ-loop words bytes₀ n i₀ bytes i = n - i
 
-mul-smaller : tie.Need-mul-smaller Inv-loop μ-loop
-mul-smaller c = omega arith
-
 smaller-requires : tie.Need-smaller-requires Inv-loop μ-loop
 smaller-requires c κs = tt
 
 loop-holds : tie.Need-loop-holds Inv-loop μ-loop
 loop-holds c = writing-starts
 
-mul-byte : tie.Need-mul-byte Inv-loop μ-loop
-mul-byte c = omega arith
-
-shared-slice-read-byte : tie.Need-shared-slice-read-byte Inv-loop μ-loop
-shared-slice-read-byte c = omega arith
-
-byte-requires : tie.Need-byte-requires Inv-loop μ-loop
-byte-requires c κs = omega arith
-
 slice-write-bytes : tie.Need-slice-write-bytes Inv-loop μ-loop
 slice-write-bytes c = omega (arith, length-kept (c .before .before .before .loop .inv))
-
-add-i : tie.Need-add-i Inv-loop μ-loop
-add-i c = omega arith
-
-loop-less : tie.Need-loop-less Inv-loop μ-loop
-loop-less c = omega arith
 
 loop-again : tie.Need-loop-again Inv-loop μ-loop
 loop-again c = byte-written _ (c .before .before .before .loop .inv) (omega arith) (c .byte .ensures)
@@ -55,15 +37,15 @@ write-bytes-spec =
     (tie.spec
     Inv-loop
     μ-loop
-    mul-smaller
+    (λ c. omega arith)
     smaller-requires
     loop-holds
-    mul-byte
-    shared-slice-read-byte
-    byte-requires
+    (λ c. omega arith)
+    (λ c. omega arith)
+    (λ c κs. omega arith)
     slice-write-bytes
-    add-i
-    loop-less
+    (λ c. omega arith)
+    (λ c. omega arith)
     loop-again
     same-length
     returns)

@@ -5,9 +5,6 @@ use Rattle.cells.specs.GroundLaws.{link-inside, link-leans, arrow-inside
 use Rattle.cells.proofs.ground.leans.Statement.{statement}
 use Rattle.cells.proofs.ground.leans.Tie as tie
 
-get-requires : tie.Need-get-requires
-get-requires c κs = search needs
-
 is-unmarked-requires : tie.Need-is-unmarked-requires
 is-unmarked-requires c κs = link-inside (c .before .before .before .pre) (c .before .get .ensures) (c .if1 .taken)
 
@@ -44,5 +41,5 @@ pub leans-spec : {M : Type 1} → statement M
 leans-spec =
     tie.close
     (tie.spec
-    get-requires is-unmarked-requires returns is-unmarked-requires-2 returns-2 is-unmarked-requires-3 returns-3
+    (λ c κs. search needs) is-unmarked-requires returns is-unmarked-requires-2 returns-2 is-unmarked-requires-3 returns-3
     returns-4)

@@ -19,12 +19,6 @@ loop-holds c = (omega arith, progress-none (c .before .pre .0) (λ j h. absurd (
 visit-requires : tie.Need-visit-requires Inv-loop μ-loop
 visit-requires c κs = record { marking = c .before .before .loop .inv .1 .marking; inside = omega arith }
 
-sub-visit : tie.Need-sub-visit Inv-loop μ-loop
-sub-visit c = omega arith
-
-sub-visit-2 : tie.Need-sub-visit-2 Inv-loop μ-loop
-sub-visit-2 c = omega arith
-
 visit-requires-2 : tie.Need-visit-requires-2 Inv-loop μ-loop
 visit-requires-2 c κs = record { marking = c .before .before .before .visit .ensures .marking; inside = omega arith }
 
@@ -38,12 +32,6 @@ add-new-2 c =
     let down = c .before .before in
     let up = down .before .before .before .before in
     omega (arith, progress-bounded (pass-on (up .before .before .before .loop .inv .1) (up .visit .ensures) (down .visit2 .ensures)))
-
-add-i : tie.Need-add-i Inv-loop μ-loop
-add-i c = omega arith
-
-loop-less : tie.Need-loop-less Inv-loop μ-loop
-loop-less c = omega arith
 
 loop-again : tie.Need-loop-again Inv-loop μ-loop
 loop-again c =
@@ -64,5 +52,5 @@ pub pass-spec : {M : Type 1} → statement M
 pass-spec =
     tie.close
     (tie.spec
-    Inv-loop μ-loop loop-holds visit-requires sub-visit sub-visit-2 visit-requires-2 add-new add-new-2 add-i loop-less
+    Inv-loop μ-loop loop-holds visit-requires (λ c. omega arith) (λ c. omega arith) visit-requires-2 add-new add-new-2 (λ c. omega arith) (λ c. omega arith)
     loop-again same-length returns)

@@ -16,9 +16,6 @@ loop-holds c = sweep-starts _ (c .before .pre .1) (c .before .pre .0)
 pass-requires : tie.Need-pass-requires Inv-loop μ-loop
 pass-requires c κs = (c .before .before .loop .inv .marking, omega arith)
 
-same-length : tie.Need-same-length Inv-loop μ-loop
-same-length c = omega arith
-
 returns : tie.Need-returns Inv-loop μ-loop
 returns c =
     let passed = c .before .before .before in
@@ -26,17 +23,8 @@ returns c =
     let start = test .before .before .before in
     sweep-stuck _ (start .pre .1) (test .before .loop .inv) (test .loop-test .taken) (passed .pass .ensures) (c .if1 .taken)
 
-sub-left : tie.Need-sub-left Inv-loop μ-loop
-sub-left c = omega arith
-
-loop-less : tie.Need-loop-less Inv-loop μ-loop
-loop-less c = omega arith
-
 loop-again : tie.Need-loop-again Inv-loop μ-loop
 loop-again c = let passed = c .before .before .before in sweep-on (passed .before .before .before .loop .inv) (passed .pass .ensures)
-
-same-length-2 : tie.Need-same-length-2 Inv-loop μ-loop
-same-length-2 c = omega arith
 
 returns-2 : tie.Need-returns-2 Inv-loop μ-loop
 returns-2 c = sweep-done _ (c .before .before .before .pre .1) (c .before .loop .inv) (omega arith)
@@ -45,4 +33,4 @@ pub sweep-spec : {M : Type 1} → statement M
 sweep-spec =
     tie.close
     (tie.spec
-    Inv-loop μ-loop loop-holds pass-requires same-length returns sub-left loop-less loop-again same-length-2 returns-2)
+    Inv-loop μ-loop loop-holds pass-requires (λ c. omega arith) returns (λ c. omega arith) (λ c. omega arith) loop-again (λ c. omega arith) returns-2)

@@ -16,15 +16,6 @@ abbrev μ-loop : tie.MeasureT-loop
 loop-holds : tie.Need-loop-holds Inv-loop μ-loop
 loop-holds c = (omega arith, unmark-none (c .before .pre .0))
 
-put-pair-requires : tie.Need-put-pair-requires Inv-loop μ-loop
-put-pair-requires c κs = omega arith
-
-add-i : tie.Need-add-i Inv-loop μ-loop
-add-i c = omega arith
-
-loop-less : tie.Need-loop-less Inv-loop μ-loop
-loop-less c = omega arith
-
 loop-again : tie.Need-loop-again Inv-loop μ-loop
 loop-again c = let put = c .before .before in (omega arith, unmark-more (put .before .before .before .loop .inv .1) (put .put-pair .ensures))
 
@@ -41,4 +32,4 @@ pub unmark-spec : {M : Type 1} → statement M
 unmark-spec =
     tie.close
     (tie.spec
-    Inv-loop μ-loop loop-holds put-pair-requires add-i loop-less loop-again same-length returns)
+    Inv-loop μ-loop loop-holds (λ c κs. omega arith) (λ c. omega arith) (λ c. omega arith) loop-again same-length returns)

@@ -6,29 +6,8 @@ use Rattle.cells.specs.LayoutLaws.{pair-put}
 use Rattle.cells.proofs.memory.put_pair.Statement.{statement}
 use Rattle.cells.proofs.memory.put_pair.Tie as tie
 
-mul-at : tie.Need-mul-at
-mul-at c = search needs
-
-add-cells : tie.Need-add-cells
-add-cells c = search needs
-
-mul-cells : tie.Need-mul-cells
-mul-cells c = search needs
-
-slice-write-cells : tie.Need-slice-write-cells
-slice-write-cells c = search needs
-
-add-cells-2 : tie.Need-add-cells-2
-add-cells-2 c = search needs
-
-mul-cells-2 : tie.Need-mul-cells-2
-mul-cells-2 c = search needs
-
 slice-write-cells-2 : tie.Need-slice-write-cells-2
 slice-write-cells-2 c = simp length-set (omega arith)
-
-same-length : tie.Need-same-length
-same-length c = search needs
 
 returns : tie.Need-returns
 returns c = pair-put (c .args .cells .now) (c .args .i) (c .args .p) (c .pre)
@@ -37,4 +16,4 @@ pub put-pair-spec : {M : Type 1} → statement M
 put-pair-spec =
     tie.close
     (tie.spec
-    mul-at add-cells mul-cells slice-write-cells add-cells-2 mul-cells-2 slice-write-cells-2 same-length returns)
+    (λ c. search needs) (λ c. search needs) (λ c. search needs) (λ c. search needs) (λ c. search needs) (λ c. search needs) slice-write-cells-2 (λ c. search needs) returns)

@@ -4,17 +4,11 @@ use Rattle.cells.specs.Saying.{parts-ready, parts-equal}
 use Rattle.cells.proofs.solve.equal_parts.Statement.{statement}
 use Rattle.cells.proofs.solve.equal_parts.Tie as tie
 
-put-pair-requires : tie.Need-put-pair-requires
-put-pair-requires c κs = search needs
-
 solve-requires : tie.Need-solve-requires
 solve-requires c κs =
     let put = c .before .before .before in
     let (sound, one, other) = put .before .before .before .pre in
     parts-ready sound one other (put .put-pair .ensures)
-
-same-length : tie.Need-same-length
-same-length c = search needs
 
 returns : tie.Need-returns
 returns c =
@@ -24,4 +18,4 @@ returns c =
     parts-equal sound one other (put .put-pair .ensures) (solved .solve .ensures)
 
 pub equal-parts-spec : {M : Type 1} → statement M
-equal-parts-spec = tie.close (tie.spec put-pair-requires solve-requires same-length returns)
+equal-parts-spec = tie.close (tie.spec (λ c κs. search needs) solve-requires (λ c. search needs) returns)

@@ -4,15 +4,6 @@ use Rattle.cells.specs.Saying.{said-of-free, said-otherwise, said-again,
 use Rattle.cells.proofs.solve.say_root.Statement.{statement}
 use Rattle.cells.proofs.solve.say_root.Tie as tie
 
-get-requires : tie.Need-get-requires
-get-requires c κs = search needs
-
-put-requires : tie.Need-put-requires
-put-requires c κs = search needs
-
-same-length : tie.Need-same-length
-same-length c = search needs
-
 returns : tie.Need-returns
 returns c =
     let put = c .before .before in
@@ -20,16 +11,10 @@ returns c =
     let got = free .before in
     said-of-free (got .before .before .before .pre) (got .get .ensures) (free .if1 .taken) (put .put .ensures)
 
-same-length-2 : tie.Need-same-length-2
-same-length-2 c = search needs
-
 returns-2 : tie.Need-returns-2
 returns-2 c =
     let got = c .before .before in
     said-otherwise (got .before .before .before .pre) (got .get .ensures) (c .before .if1 .left) (c .if2 .taken)
-
-same-length-3 : tie.Need-same-length-3
-same-length-3 c = search needs
 
 returns-3 : tie.Need-returns-3
 returns-3 c =
@@ -41,9 +26,6 @@ equal-parts-requires c κs =
     let same = c .before .before in
     let got = same .before .before in
     arrows-ready (got .before .before .before .pre) (got .get .ensures) (same .if2 .left) (c .before .if3 .left)
-
-same-length-4 : tie.Need-same-length-4
-same-length-4 c = search needs
 
 returns-4 : tie.Need-returns-4
 returns-4 c =
@@ -57,5 +39,5 @@ pub say-root-spec : {M : Type 1} → statement M
 say-root-spec =
     tie.close
     (tie.spec
-    get-requires put-requires same-length returns same-length-2 returns-2 same-length-3 returns-3 equal-parts-requires
-    same-length-4 returns-4)
+    (λ c κs. search needs) (λ c κs. search needs) (λ c. search needs) returns (λ c. search needs) returns-2 (λ c. search needs) returns-3 equal-parts-requires
+    (λ c. search needs) returns-4)

@@ -39,9 +39,6 @@ returns-2 c =
     let met = told .before .before .before .before in
     solved (met .before .before .loop .inv) (met .meet .ensures) (told .enum-told2 .given .1) (c .if1 .taken)
 
-sub-left : tie.Need-sub-left Inv-loop μ-loop
-sub-left c = omega arith
-
 get-pair-requires : tie.Need-get-pair-requires Inv-loop μ-loop
 get-pair-requires c κs =
     let told = c .before .before in
@@ -95,5 +92,5 @@ pub solve-spec : {M : Type 1} → statement M
 solve-spec =
     tie.close
     (tie.spec
-    Inv-loop μ-loop loop-holds meet-requires enum-told same-length returns enum-told-2 same-length-2 returns-2 sub-left
+    Inv-loop μ-loop loop-holds meet-requires enum-told same-length returns enum-told-2 same-length-2 returns-2 (λ c. omega arith)
     get-pair-requires loop-less loop-again enum-known-met put-pair-requires add-left loop-less-2 loop-again-2)

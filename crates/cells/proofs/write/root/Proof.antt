@@ -18,9 +18,6 @@ abbrev μ-loop : tie.MeasureT-loop
 loop-holds : tie.Need-loop-holds Inv-loop μ-loop
 loop-holds c = (omega arith, λ τ d. d)
 
-get-requires : tie.Need-get-requires Inv-loop μ-loop
-get-requires c κs = omega arith
-
 returns : tie.Need-returns Inv-loop μ-loop
 returns c =
     let got = c .before in
@@ -40,4 +37,4 @@ loop-again c =
 
 pub root-spec : {M : Type 1} → statement M
 root-spec =
-    tie.close (tie.spec Inv-loop μ-loop loop-holds get-requires returns loop-less loop-again)
+    tie.close (tie.spec Inv-loop μ-loop loop-holds (λ c κs. omega arith) returns loop-less loop-again)

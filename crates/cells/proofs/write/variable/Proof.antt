@@ -5,18 +5,12 @@ use Rattle.cells.specs.WritingLaws.{few-numbered, old-spelled, new-spell
 use Rattle.cells.proofs.write.variable.Statement.{statement}
 use Rattle.cells.proofs.write.variable.Tie as tie
 
-get-pair-requires : tie.Need-get-pair-requires
-get-pair-requires c κs = search needs
-
 add-t10 : tie.Need-add-t10
 add-t10 c =
     let got = c .before in
     let start = got .before .before .before in
     let ready = start .pre .0 in
     rw (got .get-pair .ensures) (omega (arith, few-numbered ready, ready .small (start .args .r)))
-
-same-length : tie.Need-same-length
-same-length c = search needs
 
 returns : tie.Need-returns
 returns c =
@@ -27,14 +21,8 @@ returns c =
 add-next : tie.Need-add-next
 add-next c = omega (arith, few-numbered (c .before .before .before .before .pre .0))
 
-put-pair-requires : tie.Need-put-pair-requires
-put-pair-requires c κs = search needs
-
 add-t15 : tie.Need-add-t15
 add-t15 c = let got = c .before .before .before .before .before in omega (arith, few-numbered (got .before .before .before .pre .0))
-
-same-length-2 : tie.Need-same-length-2
-same-length-2 c = search needs
 
 returns-2 : tie.Need-returns-2
 returns-2 c =
@@ -48,4 +36,4 @@ pub variable-spec : {M : Type 1} → statement M
 variable-spec =
     tie.close
     (tie.spec
-    get-pair-requires add-t10 same-length returns add-next put-pair-requires add-t15 same-length-2 returns-2)
+    (λ c κs. search needs) add-t10 (λ c. search needs) returns add-next (λ c κs. search needs) add-t15 (λ c. search needs) returns-2)

@@ -4,24 +4,6 @@ use Rattle.cells.specs.WritingLaws.{leaf-wrote}
 use Rattle.cells.proofs.write.write_leaf.Statement.{statement}
 use Rattle.cells.proofs.write.write_leaf.Tie as tie
 
-leaf-requires : tie.Need-leaf-requires
-leaf-requires c κs = search needs
-
-mul-out : tie.Need-mul-out
-mul-out c = search needs
-
-slice-write-out : tie.Need-slice-write-out
-slice-write-out c = search needs
-
-sub-t10 : tie.Need-sub-t10
-sub-t10 c = search needs
-
-same-length : tie.Need-same-length
-same-length c = search needs
-
-same-length-2 : tie.Need-same-length-2
-same-length-2 c = search needs
-
 returns : tie.Need-returns
 returns c =
     let spelled = c .before .before in
@@ -31,4 +13,4 @@ returns c =
 pub write-leaf-spec : {M : Type 1} → statement M
 write-leaf-spec =
     tie.close
-    (tie.spec leaf-requires mul-out slice-write-out sub-t10 same-length same-length-2 returns)
+    (tie.spec (λ c κs. search needs) (λ c. search needs) (λ c. search needs) (λ c. search needs) (λ c. search needs) (λ c. search needs) returns)

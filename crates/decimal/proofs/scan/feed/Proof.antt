@@ -16,17 +16,8 @@ abbrev μ-loop : tie.MeasureT-loop
 loop-holds : tie.Need-loop-holds Inv-loop μ-loop
 loop-holds c = fed-none
 
-shared-slice-read-step : tie.Need-shared-slice-read-step Inv-loop μ-loop
-shared-slice-read-step c = omega arith
-
 step-requires : tie.Need-step-requires Inv-loop μ-loop
 step-requires c κs = tt
-
-add-i : tie.Need-add-i Inv-loop μ-loop
-add-i c = omega arith
-
-loop-less : tie.Need-loop-less Inv-loop μ-loop
-loop-less c = omega arith
 
 loop-again : tie.Need-loop-again Inv-loop μ-loop
 loop-again c =
@@ -46,10 +37,10 @@ feed-spec =
     Inv-loop
     μ-loop
     loop-holds
-    shared-slice-read-step
+    (λ c. omega arith)
     step-requires
-    add-i
-    loop-less
+    (λ c. omega arith)
+    (λ c. omega arith)
     loop-again
     same-length
     returns)

@@ -4,18 +4,6 @@ use borrow.Author.Tests.{lt-ltb, le-ltb, le-leb, lt-leb}
 use Rattle.decimal.proofs.scan.in_token.Statement.{statement}
 use Rattle.decimal.proofs.scan.in_token.Tie as tie
 
-mul-next : tie.Need-mul-next
-mul-next c = search needs
-
-cast-next : tie.Need-cast-next
-cast-next c = search needs
-
-add-next : tie.Need-add-next
-add-next c = search needs
-
-cast-t13 : tie.Need-cast-t13
-cast-t13 c = search needs
-
 returns : tie.Need-returns
 returns c = simp (le-leb 48 _ (c .before .before .if1 .left), lt-ltb _ 58 (c .before .if2 .taken), lt-ltb _ _ (c .if3 .taken))
 
@@ -30,4 +18,4 @@ returns-4 c = simp (le-leb 48 _ (c .before .if1 .left), le-ltb _ 58 (c .if2 .lef
 
 pub in-token-spec : {M : Type 1} → statement M
 in-token-spec =
-    tie.close (tie.spec mul-next cast-next add-next cast-t13 returns returns-2 returns-3 returns-4)
+    tie.close (tie.spec (λ c. search needs) (λ c. search needs) (λ c. search needs) (λ c. search needs) returns returns-2 returns-3 returns-4)

@@ -5,23 +5,11 @@ use mathlib.Core.Path.{sym, _∙_}
 use Rattle.decimal.proofs.scan.step.Statement.{statement}
 use Rattle.decimal.proofs.scan.step.Tie as tie
 
-is-space-requires : tie.Need-is-space-requires
-is-space-requires c κs = search needs
-
-end-requires : tie.Need-end-requires
-end-requires c κs = search needs
-
-same-length : tie.Need-same-length
-same-length c = search needs
-
 returns : tie.Need-returns
 unfolding scanByte
 returns c =
     let tested = c .before .before .before .before in
     rw (sym (tested .before .is-space .ensures) ∙ tested .if1 .taken) (c .before .before .end .ensures)
-
-other-requires : tie.Need-other-requires
-other-requires c κs = search needs
 
 returns-2 : tie.Need-returns-2
 unfolding scanByte
@@ -30,4 +18,4 @@ returns-2 c = rw (sym (c .before .before .is-space .ensures) ∙ c .before .if1 
 pub step-spec : {M : Type 1} → statement M
 step-spec =
     tie.close
-    (tie.spec is-space-requires end-requires same-length returns other-requires returns-2)
+    (tie.spec (λ c κs. search needs) (λ c κs. search needs) (λ c. search needs) returns (λ c κs. search needs) returns-2)

@@ -7,17 +7,5 @@ use Rattle.decimal.proofs.text.byte.Tie as tie
 returns : tie.Need-returns
 returns c = written-past _ _ (c .if1 .taken)
 
-slice-write-text : tie.Need-slice-write-text
-slice-write-text c = search needs
-
-add-result : tie.Need-add-result
-add-result c = search needs
-
-same-length : tie.Need-same-length
-same-length c = search needs
-
-returns-2 : tie.Need-returns-2
-returns-2 c = search needs
-
 pub byte-spec : {M : Type 1} → statement M
-byte-spec = tie.close (tie.spec returns slice-write-text add-result same-length returns-2)
+byte-spec = tie.close (tie.spec returns (λ c. search needs) (λ c. search needs) (λ c. search needs) (λ c. search needs))

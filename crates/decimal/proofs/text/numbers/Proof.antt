@@ -16,20 +16,8 @@ abbrev μ-loop : tie.MeasureT-loop
 loop-holds : tie.Need-loop-holds Inv-loop μ-loop
 loop-holds c = numbers-none
 
-mul-spaced-number : tie.Need-mul-spaced-number Inv-loop μ-loop
-mul-spaced-number c = omega arith
-
-shared-slice-read-spaced-number : tie.Need-shared-slice-read-spaced-number Inv-loop μ-loop
-shared-slice-read-spaced-number c = omega arith
-
 spaced-number-requires : tie.Need-spaced-number-requires Inv-loop μ-loop
 spaced-number-requires c κs = tt
-
-add-i : tie.Need-add-i Inv-loop μ-loop
-add-i c = omega arith
-
-loop-less : tie.Need-loop-less Inv-loop μ-loop
-loop-less c = omega arith
 
 loop-again : tie.Need-loop-again Inv-loop μ-loop
 loop-again c =
@@ -49,11 +37,11 @@ numbers-spec =
     Inv-loop
     μ-loop
     loop-holds
-    mul-spaced-number
-    shared-slice-read-spaced-number
+    (λ c. omega arith)
+    (λ c. omega arith)
     spaced-number-requires
-    add-i
-    loop-less
+    (λ c. omega arith)
+    (λ c. omega arith)
     loop-again
     same-length
     returns)

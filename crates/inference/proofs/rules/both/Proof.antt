@@ -4,9 +4,6 @@ use Rattle.cells.specs.Outcomes.{outcome-then, outcome-fails, met-sound}
 use Rattle.inference.proofs.rules.both.Statement.{statement}
 use Rattle.inference.proofs.rules.both.Tie as tie
 
-join-requires : tie.Need-join-requires
-join-requires c κs = search needs
-
 join-requires-2 : tie.Need-join-requires-2
 join-requires-2 c κs =
     let joined = c .before .before .before .before in
@@ -14,21 +11,15 @@ join-requires-2 c κs =
     let same = joined .join .ensures .same-length in
     (met-sound (joined .join .ensures) (c .before .if1 .taken), rw same p, rw same q)
 
-same-length : tie.Need-same-length
-same-length c = search needs
-
 returns : tie.Need-returns
 returns c =
     let called = c .before .before in
     let test = called .before .before in
     outcome-then (test .before .before .before .join .ensures) (test .if1 .taken) (called .join2 .ensures)
 
-same-length-2 : tie.Need-same-length-2
-same-length-2 c = search needs
-
 returns-2 : tie.Need-returns-2
 returns-2 c = outcome-fails (c .before .before .before .join .ensures) (c .if1 .left)
 
 pub both-spec : {M : Type 1} → statement M
 both-spec =
-    tie.close (tie.spec join-requires join-requires-2 same-length returns same-length-2 returns-2)
+    tie.close (tie.spec (λ c κs. search needs) join-requires-2 (λ c. search needs) returns (λ c. search needs) returns-2)

@@ -4,15 +4,6 @@ use Rattle.inference.specs.RuleLaws.{binder-ready, name-solved, unbound-
 use Rattle.inference.proofs.rules.name.Statement.{statement}
 use Rattle.inference.proofs.rules.name.Tie as tie
 
-binder-requires : tie.Need-binder-requires
-binder-requires c κs = search needs
-
-enum-known-bound : tie.Need-enum-known-bound
-enum-known-bound c = search needs
-
-enum-told : tie.Need-enum-told
-enum-told c = search needs
-
 returns : tie.Need-returns
 returns c = let asked = c .before .before in unbound-solved (asked .before .before .before .pre) (asked .binder .ensures) (c .enum-told .given .1)
 
@@ -21,9 +12,6 @@ bound-at-requires c κs =
     let told = c .before .before in
     let asked = told .before .before in
     binder-ready (asked .before .before .before .pre) (asked .binder .ensures) (told .bound .given .1)
-
-same-length : tie.Need-same-length
-same-length c = search needs
 
 returns-2 : tie.Need-returns-2
 returns-2 c =
@@ -36,4 +24,4 @@ pub name-spec : {M : Type 1} → statement M
 name-spec =
     tie.close
     (tie.spec
-    binder-requires enum-known-bound enum-told returns bound-at-requires same-length returns-2)
+    (λ c κs. search needs) (λ c. search needs) (λ c. search needs) returns bound-at-requires (λ c. search needs) returns-2)

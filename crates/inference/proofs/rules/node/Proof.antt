@@ -5,15 +5,6 @@ use Rattle.inference.specs.NodeCells.{application-ready, condition-ready
 use Rattle.inference.proofs.rules.node.Statement.{statement}
 use Rattle.inference.proofs.rules.node.Tie as tie
 
-read-requires : tie.Need-read-requires
-read-requires c κs = search needs
-
-operator-requires : tie.Need-operator-requires
-operator-requires c κs = search needs
-
-name-requires : tie.Need-name-requires
-name-requires c κs = search needs
-
 application-requires : tie.Need-application-requires
 application-requires c κs =
     let got = c .before .before in
@@ -33,27 +24,12 @@ let-in-requires c κs = let got = c .before .before in let-ready (got .before .b
 rec-requires : tie.Need-rec-requires
 rec-requires c κs = let got = c .before .before in rec-ready (got .before .before .before .pre) (got .read .ensures) (c .before .match .keys7)
 
-add-constant : tie.Need-add-constant
-add-constant c = search needs
-
-constant-requires : tie.Need-constant-requires
-constant-requires c κs = search needs
-
-constant-requires-2 : tie.Need-constant-requires-2
-constant-requires-2 c κs = search needs
-
-same-length : tie.Need-same-length
-same-length c = search needs
-
 returns : tie.Need-returns
 returns c =
     let called = c .before .before in
     let chosen = called .before .before in
     let got = chosen .before in
     operator-solved (got .before .before .before .pre) (got .read .ensures) (chosen .match .keys1) (called .operator .ensures)
-
-same-length-2 : tie.Need-same-length-2
-same-length-2 c = search needs
 
 returns-2 : tie.Need-returns-2
 returns-2 c =
@@ -62,18 +38,12 @@ returns-2 c =
     let got = chosen .before in
     names-rule (got .before .before .before .pre) (got .read .ensures) (chosen .match .keys2) (called .name .ensures)
 
-same-length-3 : tie.Need-same-length-3
-same-length-3 c = search needs
-
 returns-3 : tie.Need-returns-3
 returns-3 c =
     let called = c .before .before in
     let chosen = called .before .before in
     let got = chosen .before in
     application-solved (got .before .before .before .pre) (got .read .ensures) (chosen .match .keys3) (called .application .ensures)
-
-same-length-4 : tie.Need-same-length-4
-same-length-4 c = search needs
 
 returns-4 : tie.Need-returns-4
 returns-4 c =
@@ -82,18 +52,12 @@ returns-4 c =
     let got = chosen .before in
     if-solved (got .before .before .before .pre) (got .read .ensures) (chosen .match .keys4) (called .condition .ensures)
 
-same-length-5 : tie.Need-same-length-5
-same-length-5 c = search needs
-
 returns-5 : tie.Need-returns-5
 returns-5 c =
     let called = c .before .before in
     let chosen = called .before .before in
     let got = chosen .before in
     lambda-solved (got .before .before .before .pre) (got .read .ensures) (chosen .match .keys5) (called .lambda .ensures)
-
-same-length-6 : tie.Need-same-length-6
-same-length-6 c = search needs
 
 returns-6 : tie.Need-returns-6
 returns-6 c =
@@ -102,9 +66,6 @@ returns-6 c =
     let got = chosen .before in
     let-solved (got .before .before .before .pre) (got .read .ensures) (chosen .match .keys6) (called .let-in .ensures)
 
-same-length-7 : tie.Need-same-length-7
-same-length-7 c = search needs
-
 returns-7 : tie.Need-returns-7
 returns-7 c =
     let called = c .before .before in
@@ -112,18 +73,12 @@ returns-7 c =
     let got = chosen .before in
     rec-solved (got .before .before .before .pre) (got .read .ensures) (chosen .match .keys7) (called .rec .ensures)
 
-same-length-8 : tie.Need-same-length-8
-same-length-8 c = search needs
-
 returns-8 : tie.Need-returns-8
 returns-8 c =
     let called = c .before .before in
     let known = called .before .before in
     let got = known .before .before in
     base-solved (got .before .before .before .pre) (got .read .ensures) (known .if1 .taken) (called .constant .ensures)
-
-same-length-9 : tie.Need-same-length-9
-same-length-9 c = search needs
 
 returns-9 : tie.Need-returns-9
 returns-9 c =
@@ -137,7 +92,7 @@ pub node-spec : {M : Type 1} → statement M
 node-spec =
     tie.close
     (tie.spec
-    read-requires operator-requires name-requires application-requires condition-requires lambda-requires
-    let-in-requires rec-requires add-constant constant-requires constant-requires-2 same-length returns same-length-2
-    returns-2 same-length-3 returns-3 same-length-4 returns-4 same-length-5 returns-5 same-length-6 returns-6
-    same-length-7 returns-7 same-length-8 returns-8 same-length-9 returns-9)
+    (λ c κs. search needs) (λ c κs. search needs) (λ c κs. search needs) application-requires condition-requires lambda-requires
+    let-in-requires rec-requires (λ c. search needs) (λ c κs. search needs) (λ c κs. search needs) (λ c. search needs) returns (λ c. search needs)
+    returns-2 (λ c. search needs) returns-3 (λ c. search needs) returns-4 (λ c. search needs) returns-5 (λ c. search needs) returns-6
+    (λ c. search needs) returns-7 (λ c. search needs) returns-8 (λ c. search needs) returns-9)

@@ -22,12 +22,6 @@ loop-holds c = (omega arith, no-node-yet (c .before .before .pre))
 node-requires : tie.Need-node-requires Inv-loop μ-loop
 node-requires c κs = next-ready (c .before .before .before .before .before .pre) (c .before .loop-test .taken) (c .before .before .loop .inv .1)
 
-add-k : tie.Need-add-k Inv-loop μ-loop
-add-k c = omega arith
-
-loop-less : tie.Need-loop-less Inv-loop μ-loop
-loop-less c = omega arith
-
 loop-again : tie.Need-loop-again Inv-loop μ-loop
 loop-again c =
     let solved = c .before .before .before in
@@ -64,4 +58,4 @@ pub nodes-spec : {M : Type 1} → statement M
 nodes-spec =
     tie.close
     (tie.spec
-    Inv-loop μ-loop loop-holds node-requires add-k loop-less loop-again same-length returns same-length-2 returns-2)
+    Inv-loop μ-loop loop-holds node-requires (λ c. omega arith) (λ c. omega arith) loop-again same-length returns same-length-2 returns-2)

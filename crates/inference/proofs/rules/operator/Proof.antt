@@ -7,27 +7,15 @@ use Rattle.inference.specs.NodeCells.{gives-small}
 use Rattle.inference.proofs.rules.operator.Statement.{statement}
 use Rattle.inference.proofs.rules.operator.Tie as tie
 
-mul-say : tie.Need-mul-say
-mul-say c = search needs
-
-add-say : tie.Need-add-say
-add-say c = search needs
-
-gives-cell-requires : tie.Need-gives-cell-requires
-gives-cell-requires c κs = search needs
-
 say-requires : tie.Need-say-requires
 say-requires c κs =
     let start = c .before .before .before in
     let gives : c .gives-cell .result < 4 = rw (c .gives-cell .ensures) (gives-small (start .args .o)) in
     (start .pre .0, omega arith, arrow-sayable (omega arith) (omega arith))
 
-same-length : tie.Need-same-length
-same-length c = search needs
-
 returns : tie.Need-returns
 returns c = let said = c .before .before in rw (said .before .gives-cell .ensures) at (said .say .ensures)
 
 pub operator-spec : {M : Type 1} → statement M
 operator-spec =
-    tie.close (tie.spec mul-say add-say gives-cell-requires say-requires same-length returns)
+    tie.close (tie.spec (λ c. search needs) (λ c. search needs) (λ c κs. search needs) say-requires (λ c. search needs) returns)
