@@ -6,23 +6,8 @@ use mathlib.Core.Path.{sym}
 use Rattle.host.proofs.iltgovruz_infer.Statement.{statement}
 use Rattle.host.proofs.iltgovruz_infer.Tie as tie
 
-slice-aggregate-read-table : tie.Need-slice-aggregate-read-table
-slice-aggregate-read-table c = search needs
-
-read-table-requires : tie.Need-read-table-requires
-read-table-requires c κs = search needs
-
-array-share-prefix-words : tie.Need-array-share-prefix-words
-array-share-prefix-words c = search needs
-
 slice-aggregate-infer-words : tie.Need-slice-aggregate-infer-words
 slice-aggregate-infer-words c = sym (length-take-le _ _ (c .before .before .read-table .ensures .within))
-
-infer-words-requires : tie.Need-infer-words-requires
-infer-words-requires c κs = search needs
-
-same-length : tie.Need-same-length
-same-length c = search needs
 
 returns : tie.Need-returns
 returns c =
@@ -34,10 +19,10 @@ pub iltgovruz-infer-spec : {M : Type 1} → statement M
 iltgovruz-infer-spec =
     tie.close
     (tie.spec
-    slice-aggregate-read-table
-    read-table-requires
-    array-share-prefix-words
+    (λ c. search needs)
+    (λ c κs. search needs)
+    (λ c. search needs)
     slice-aggregate-infer-words
-    infer-words-requires
-    same-length
+    (λ c κs. search needs)
+    (λ c. search needs)
     returns)

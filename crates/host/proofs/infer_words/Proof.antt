@@ -6,15 +6,6 @@ use native.Mathlib.Omega.{arith}
 use Rattle.host.proofs.infer_words.Statement.{statement}
 use Rattle.host.proofs.infer_words.Tie as tie
 
-out-words-requires : tie.Need-out-words-requires
-out-words-requires c κs = search needs
-
-slice-aggregate-infer-on : tie.Need-slice-aggregate-infer-on
-slice-aggregate-infer-on c = search needs
-
-array-borrow-prefix-types : tie.Need-array-borrow-prefix-types
-array-borrow-prefix-types c = omega arith
-
 slice-aggregate-infer-on-2 : tie.Need-slice-aggregate-infer-on-2
 slice-aggregate-infer-on-2 c =
     let counted = c .before .before in
@@ -24,9 +15,6 @@ infer-on-requires : tie.Need-infer-on-requires
 infer-on-requires c κs =
     let counted = c .before .before .before in
     out-room (counted .before .before .before .args .out .now) (counted .out-words .ensures)
-
-same-length : tie.Need-same-length
-same-length c = search needs
 
 returns : tie.Need-returns
 returns c =
@@ -38,10 +26,10 @@ pub infer-words-spec : {M : Type 1} → statement M
 infer-words-spec =
     tie.close
     (tie.spec
-    out-words-requires
-    slice-aggregate-infer-on
-    array-borrow-prefix-types
+    (λ c κs. search needs)
+    (λ c. search needs)
+    (λ c. omega arith)
     slice-aggregate-infer-on-2
     infer-on-requires
-    same-length
+    (λ c. search needs)
     returns)

@@ -5,17 +5,8 @@ use mathlib.Core.Path.{sym, _∙_}
 use Rattle.host.proofs.read_table.Statement.{statement}
 use Rattle.host.proofs.read_table.Tie as tie
 
-wrong-length-requires : tie.Need-wrong-length-requires
-wrong-length-requires c κs = search needs
-
 returns : tie.Need-returns
 returns c = none-read _ _ (sym (c .before .wrong-length .ensures) ∙ c .if1 .taken)
-
-read-words-requires : tie.Need-read-words-requires
-read-words-requires c κs = search needs
-
-same-length : tie.Need-same-length
-same-length c = search needs
 
 returns-2 : tie.Need-returns-2
 returns-2 c =
@@ -26,4 +17,4 @@ returns-2 c =
 
 pub read-table-spec : {M : Type 1} → statement M
 read-table-spec =
-    tie.close (tie.spec wrong-length-requires returns read-words-requires same-length returns-2)
+    tie.close (tie.spec (λ c κs. search needs) returns (λ c κs. search needs) (λ c. search needs) returns-2)

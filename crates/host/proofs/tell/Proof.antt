@@ -7,35 +7,17 @@ use native.Mathlib.Omega.{arith}
 use Rattle.host.proofs.tell.Statement.{statement}
 use Rattle.host.proofs.tell.Tie as tie
 
-enum-known-inferred : tie.Need-enum-known-inferred
-enum-known-inferred c = search needs
-
 slice-aggregate-write-bytes : tie.Need-slice-aggregate-write-bytes
 slice-aggregate-write-bytes c =
     let matched = c .before .before in
     let room = rw (matched .inferred .given .1) at (matched .before .before .before .before .pre) in
     sym (length-take-le _ _ (room .0))
 
-write-bytes-requires : tie.Need-write-bytes-requires
-write-bytes-requires c κs = search needs
-
 cast-pack : tie.Need-cast-pack
 cast-pack c =
     let matched = c .before .before .before .before .before .before in
     let room = rw (matched .inferred .given .1) at (matched .before .before .before .before .pre) in
     omega arith
-
-pack-requires : tie.Need-pack-requires
-pack-requires c κs = search needs
-
-enum-known-inferred-2 : tie.Need-enum-known-inferred-2
-enum-known-inferred-2 c = search needs
-
-pack-requires-2 : tie.Need-pack-requires-2
-pack-requires-2 c κs = search needs
-
-same-length : tie.Need-same-length
-same-length c = search needs
 
 returns : tie.Need-returns
 returns c =
@@ -52,13 +34,13 @@ pub tell-spec : {M : Type 1} → statement M
 tell-spec =
     tie.close
     (tie.spec
-    enum-known-inferred
+    (λ c. search needs)
     slice-aggregate-write-bytes
-    write-bytes-requires
+    (λ c κs. search needs)
     cast-pack
-    pack-requires
-    enum-known-inferred-2
-    pack-requires-2
-    same-length
+    (λ c κs. search needs)
+    (λ c. search needs)
+    (λ c κs. search needs)
+    (λ c. search needs)
     returns
     returns-2)

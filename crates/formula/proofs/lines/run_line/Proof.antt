@@ -6,24 +6,6 @@ use borrow.Author.Needs.{needs}
 use Rattle.formula.proofs.lines.run_line.Statement.{statement}
 use Rattle.formula.proofs.lines.run_line.Tie as tie
 
-run-head-requires : tie.Need-run-head-requires
-run-head-requires c κs = search needs
-
-slice-aggregate-numbers : tie.Need-slice-aggregate-numbers
-slice-aggregate-numbers c = search needs
-
-numbers-requires : tie.Need-numbers-requires
-numbers-requires c κs = search needs
-
-slice-aggregate-bytes : tie.Need-slice-aggregate-bytes
-slice-aggregate-bytes c = search needs
-
-bytes-requires : tie.Need-bytes-requires
-bytes-requires c κs = search needs
-
-same-length : tie.Need-same-length
-same-length c = search needs
-
 returns : tie.Need-returns
 returns c =
     let ended = c .before .before in
@@ -35,10 +17,10 @@ pub run-line-spec : {M : Type 1} → statement M
 run-line-spec =
     tie.close
     (tie.spec
-    run-head-requires
-    slice-aggregate-numbers
-    numbers-requires
-    slice-aggregate-bytes
-    bytes-requires
-    same-length
+    (λ c κs. search needs)
+    (λ c. search needs)
+    (λ c κs. search needs)
+    (λ c. search needs)
+    (λ c κs. search needs)
+    (λ c. search needs)
     returns)

@@ -7,28 +7,10 @@ use native.Mathlib.Omega.{arith}
 use Rattle.formula.proofs.lines.type_line.Statement.{statement}
 use Rattle.formula.proofs.lines.type_line.Tie as tie
 
-type-head-requires : tie.Need-type-head-requires
-type-head-requires c κs = search needs
-
-words-shown-requires : tie.Need-words-shown-requires
-words-shown-requires c κs = search needs
-
 slice-aggregate-numbers : tie.Need-slice-aggregate-numbers
 slice-aggregate-numbers c =
     let shown = c .before in
     sym (length-take-le _ _ (omega (arith, shown .words-shown .ensures)))
-
-numbers-requires : tie.Need-numbers-requires
-numbers-requires c κs = search needs
-
-slice-aggregate-bytes : tie.Need-slice-aggregate-bytes
-slice-aggregate-bytes c = search needs
-
-bytes-requires : tie.Need-bytes-requires
-bytes-requires c κs = search needs
-
-same-length : tie.Need-same-length
-same-length c = search needs
 
 returns : tie.Need-returns
 returns c =
@@ -44,11 +26,11 @@ pub type-line-spec : {M : Type 1} → statement M
 type-line-spec =
     tie.close
     (tie.spec
-    type-head-requires
-    words-shown-requires
+    (λ c κs. search needs)
+    (λ c κs. search needs)
     slice-aggregate-numbers
-    numbers-requires
-    slice-aggregate-bytes
-    bytes-requires
-    same-length
+    (λ c κs. search needs)
+    (λ c. search needs)
+    (λ c κs. search needs)
+    (λ c. search needs)
     returns)

@@ -24,9 +24,6 @@ loop-holds c =
 has-turn-requires : tie.Need-has-turn-requires Inv-loop μ-loop
 has-turn-requires c κs = tt
 
-read-piece-requires-2 : tie.Need-read-piece-requires-2 Inv-loop μ-loop
-read-piece-requires-2 c κs = omega arith
-
 sub-turns : tie.Need-sub-turns Inv-loop μ-loop
 sub-turns c =
     let read = c .before .before .before .before in
@@ -68,7 +65,7 @@ read-input-spec =
     read-piece-requires
     loop-holds
     has-turn-requires
-    read-piece-requires-2
+    (λ c κs. omega arith)
     sub-turns
     loop-less
     loop-again

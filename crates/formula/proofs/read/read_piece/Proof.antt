@@ -4,18 +4,6 @@ use borrow.Author.Needs.{needs}
 use Rattle.formula.proofs.read.read_piece.Statement.{statement}
 use Rattle.formula.proofs.read.read_piece.Tie as tie
 
-read-requires : tie.Need-read-requires
-read-requires c κs = search needs
-
-take-in-requires : tie.Need-take-in-requires
-take-in-requires c κs = search needs
-
-same-length : tie.Need-same-length
-same-length c = search needs
-
-same-length-2 : tie.Need-same-length-2
-same-length-2 c = search needs
-
 returns : tie.Need-returns
 returns c =
     let taken = c .before .before in
@@ -25,4 +13,4 @@ returns c =
 
 pub read-piece-spec : {M : Type 1} → statement M
 read-piece-spec =
-    tie.close (tie.spec read-requires take-in-requires same-length same-length-2 returns)
+    tie.close (tie.spec (λ c κs. search needs) (λ c κs. search needs) (λ c. search needs) (λ c. search needs) returns)

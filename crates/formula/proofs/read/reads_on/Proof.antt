@@ -9,11 +9,8 @@ use Rattle.formula.proofs.read.reads_on.Tie as tie
 returns : tie.Need-returns
 returns c = no-further-read (c .before .fits .got) _ (c .if1 .taken)
 
-has-failed-requires : tie.Need-has-failed-requires
-has-failed-requires c κs = search needs
-
 returns-2 : tie.Need-returns-2
 returns-2 c = ap not (c .has-failed .ensures) ∙ further-read (c .before .before .fits .got) _ (c .before .if1 .left)
 
 pub reads-on-spec : {M : Type 1} → statement M
-reads-on-spec = tie.close (tie.spec returns has-failed-requires returns-2)
+reads-on-spec = tie.close (tie.spec returns (λ c κs. search needs) returns-2)

@@ -8,18 +8,6 @@ use Rattle.formula.proofs.read.take_in.Tie as tie
 returns : tie.Need-returns
 returns c = failed-read (c .before .before .before .fits .got) _ _ (c .if1 .taken)
 
-count-requires : tie.Need-count-requires
-count-requires c κs = search needs
-
-slice-aggregate-feed : tie.Need-slice-aggregate-feed
-slice-aggregate-feed c = search needs
-
-feed-requires : tie.Need-feed-requires
-feed-requires c κs = search needs
-
-same-length : tie.Need-same-length
-same-length c = search needs
-
 returns-2 : tie.Need-returns-2
 returns-2 c =
     let fed = c .before .before in
@@ -30,4 +18,4 @@ returns-2 c =
 pub take-in-spec : {M : Type 1} → statement M
 take-in-spec =
     tie.close
-    (tie.spec returns count-requires slice-aggregate-feed feed-requires same-length returns-2)
+    (tie.spec returns (λ c κs. search needs) (λ c. search needs) (λ c κs. search needs) (λ c. search needs) returns-2)

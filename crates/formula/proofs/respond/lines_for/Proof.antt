@@ -7,18 +7,6 @@ use native.Mathlib.Omega.{arith}
 use Rattle.formula.proofs.respond.lines_for.Statement.{statement}
 use Rattle.formula.proofs.respond.lines_for.Tie as tie
 
-has-failed-requires : tie.Need-has-failed-requires
-has-failed-requires c κs = search needs
-
-slice-aggregate-bytes : tie.Need-slice-aggregate-bytes
-slice-aggregate-bytes c = search needs
-
-bytes-requires : tie.Need-bytes-requires
-bytes-requires c κs = search needs
-
-same-length : tie.Need-same-length
-same-length c = search needs
-
 returns : tie.Need-returns
 returns c =
     let written = c .before .before in
@@ -26,20 +14,8 @@ returns c =
     let start = tested .before .before .before .before in
     rw (sym (tested .before .has-failed .ensures) ∙ tested .if1 .taken) (input-line-fits (start .pre) (written .bytes .ensures))
 
-count-requires : tie.Need-count-requires
-count-requires c κs = search needs
-
-within-requires : tie.Need-within-requires
-within-requires c κs = search needs
-
 slice-aggregate-two-lines : tie.Need-slice-aggregate-two-lines
 slice-aggregate-two-lines c = sym (length-take-le _ _ (omega (arith, c .before .within .ensures)))
-
-two-lines-requires : tie.Need-two-lines-requires
-two-lines-requires c κs = search needs
-
-same-length-2 : tie.Need-same-length-2
-same-length-2 c = search needs
 
 returns-2 : tie.Need-returns-2
 returns-2 c =
@@ -54,14 +30,14 @@ pub lines-for-spec : {M : Type 1} → statement M
 lines-for-spec =
     tie.close
     (tie.spec
-    has-failed-requires
-    slice-aggregate-bytes
-    bytes-requires
-    same-length
+    (λ c κs. search needs)
+    (λ c. search needs)
+    (λ c κs. search needs)
+    (λ c. search needs)
     returns
-    count-requires
-    within-requires
+    (λ c κs. search needs)
+    (λ c κs. search needs)
     slice-aggregate-two-lines
-    two-lines-requires
-    same-length-2
+    (λ c κs. search needs)
+    (λ c. search needs)
     returns-2)

@@ -4,18 +4,6 @@ use borrow.Author.Needs.{needs}
 use Rattle.formula.proofs.respond.respond.Statement.{statement}
 use Rattle.formula.proofs.respond.respond.Tie as tie
 
-end-requires : tie.Need-end-requires
-end-requires c κs = search needs
-
-lines-for-requires : tie.Need-lines-for-requires
-lines-for-requires c κs = search needs
-
-same-length : tie.Need-same-length
-same-length c = search needs
-
-same-length-2 : tie.Need-same-length-2
-same-length-2 c = search needs
-
 returns : tie.Need-returns
 returns c =
     let written = c .before .before in
@@ -24,4 +12,4 @@ returns c =
 
 pub respond-spec : {M : Type 1} → statement M
 respond-spec =
-    tie.close (tie.spec end-requires lines-for-requires same-length same-length-2 returns)
+    tie.close (tie.spec (λ c κs. search needs) (λ c κs. search needs) (λ c. search needs) (λ c. search needs) returns)

@@ -4,15 +4,6 @@ use borrow.Author.Needs.{needs}
 use Rattle.formula.proofs.respond.two_lines.Statement.{statement}
 use Rattle.formula.proofs.respond.two_lines.Tie as tie
 
-type-line-requires : tie.Need-type-line-requires
-type-line-requires c κs = search needs
-
-run-line-requires : tie.Need-run-line-requires
-run-line-requires c κs = search needs
-
-same-length : tie.Need-same-length
-same-length c = search needs
-
 returns : tie.Need-returns
 returns c =
     let written = c .before .before in
@@ -20,4 +11,4 @@ returns c =
     two-lines-fit (typed .before .before .before .before .pre) (typed .type-line .ensures) (written .run-line .ensures)
 
 pub two-lines-spec : {M : Type 1} → statement M
-two-lines-spec = tie.close (tie.spec type-line-requires run-line-requires same-length returns)
+two-lines-spec = tie.close (tie.spec (λ c κs. search needs) (λ c κs. search needs) (λ c. search needs) returns)

@@ -15,20 +15,8 @@ abbrev μ-loop : tie.MeasureT-loop
 loop-holds : tie.Need-loop-holds Inv-loop μ-loop
 loop-holds c = refl
 
-mul-store : tie.Need-mul-store Inv-loop μ-loop
-mul-store c = omega arith
-
-slice-write-store : tie.Need-slice-write-store Inv-loop μ-loop
-slice-write-store c = omega arith
-
 wrapping-add-u32-requires : tie.Need-wrapping-add-u32-requires Inv-loop μ-loop
 wrapping-add-u32-requires c κs = tt
-
-add-i : tie.Need-add-i Inv-loop μ-loop
-add-i c = omega arith
-
-loop-less : tie.Need-loop-less Inv-loop μ-loop
-loop-less c = omega arith
 
 loop-again : tie.Need-loop-again Inv-loop μ-loop
 loop-again c = simp length-set (c .before .before .loop .inv)
@@ -46,11 +34,11 @@ fill-spec =
     Inv-loop
     μ-loop
     loop-holds
-    mul-store
-    slice-write-store
+    (λ c. omega arith)
+    (λ c. omega arith)
     wrapping-add-u32-requires
-    add-i
-    loop-less
+    (λ c. omega arith)
+    (λ c. omega arith)
     loop-again
     same-length
     returns)

@@ -11,27 +11,6 @@ Inv-loop store total₀ i₀ total i = total < 4294967311
 abbrev μ-loop : tie.MeasureT-loop
 μ-loop store total₀ i₀ total i = length store - i
 
-loop-holds : tie.Need-loop-holds Inv-loop μ-loop
-loop-holds c = omega arith
-
-mul-with-digit : tie.Need-mul-with-digit Inv-loop μ-loop
-mul-with-digit c = omega arith
-
-shared-slice-read-with-digit : tie.Need-shared-slice-read-with-digit Inv-loop μ-loop
-shared-slice-read-with-digit c = omega arith
-
-with-digit-requires : tie.Need-with-digit-requires Inv-loop μ-loop
-with-digit-requires c κs = omega arith
-
-add-i : tie.Need-add-i Inv-loop μ-loop
-add-i c = omega arith
-
-loop-less : tie.Need-loop-less Inv-loop μ-loop
-loop-less c = omega arith
-
-loop-again : tie.Need-loop-again Inv-loop μ-loop
-loop-again c = omega arith
-
 returns : tie.Need-returns Inv-loop μ-loop
 returns c = tt
 
@@ -41,11 +20,11 @@ sum-spec =
     (tie.spec
     Inv-loop
     μ-loop
-    loop-holds
-    mul-with-digit
-    shared-slice-read-with-digit
-    with-digit-requires
-    add-i
-    loop-less
-    loop-again
+    (λ c. omega arith)
+    (λ c. omega arith)
+    (λ c. omega arith)
+    (λ c κs. omega arith)
+    (λ c. omega arith)
+    (λ c. omega arith)
+    (λ c. omega arith)
     returns)
