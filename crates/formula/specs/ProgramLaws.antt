@@ -46,9 +46,6 @@ pub record TwoLinesIn (words text : List ℕ) (n : ℕ) : Type 0 where
   pub inside : n ≤ length text
   pub lines : TwoLines words (take n text)
 
-pub so-many-zeros : (n : ℕ) {made : List ℕ} → made ≡ replicate n 0 → n ≡ length made
-so-many-zeros n is = sym (ap length is ∙ length-replicate n 0)
-
 pub type-fits : {words work out work′ out′ : List ℕ} {a : Inferred} → Infers words work out (leaves a work′ out′) → wordsShown a ≤ length out
 type-fits {words} {work} {out} {work′} {out′} {a} i = go a i
   where

@@ -1,6 +1,7 @@
 -- `cells::solve::solve` meets its contract. The loop's invariant: what is demanded now is what was demanded at first.
 use native.Mathlib.Omega.{arith}
-use Rattle.cells.specs.SolvingLaws.{Running, work, solving-starts, lengths, solving-clashes, solved, newest-inside, next-pair, next-pair-less, room-for-pair, few-pairs, parts-first, parts-less}
+use Rattle.cells.specs.SolvingLaws.{Running, work, solving-starts, lengths, solving-clashes, solved}
+use Rattle.cells.specs.SolvingLaws.{newest-inside, next-pair, next-pair-less, room-for-pair, few-pairs, parts-first, parts-less}
 use Rattle.cells.proofs.solve.solve.Statement.{statement}
 use Rattle.cells.proofs.solve.solve.Tie as tie
 
