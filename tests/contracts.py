@@ -1,6 +1,6 @@
 #!/usr/bin/env python3
 """Every public function has a contract and a row of docs/PROMISES.md with two wrong answers that are edits of its crate; none has a `requires`
-but a part, that is one whose row stands under "Parts" and that another crate calls; no proof has an axiom.
+but a part, that is one whose row stands under "Parts" and that another crate calls; a function that a page names is there; no proof has an axiom.
 
 A function is public that is `pub` or has a C name, wherever it stands: also in a private module, whether or not it is exported again."""
 import glob
@@ -94,6 +94,8 @@ impl T { pub fn method<'a>(&'a self) -> char ensures {
 # ---- The page
 
 PAGE = "docs/PROMISES.md"
+PAGES = ["README.md", PAGE, "docs/RULES.md", "docs/DECISIONS.md", "docs/SPEED.md"]
+NAMED = re.compile(r"`(\w+::\w+)`")
 ROW = re.compile(r"(?m)^\| `(\w+::\w+)` \|.*$")
 
 
@@ -130,16 +132,24 @@ def faults_of(path, function, kinds, row, is_part):
             yield "%s: %s::%s: %s is no edit of crates/%s" % (PAGE, crate, function, label, crate)
 
 
+def named_in_vain(public):
+    """The functions that a page names, as `crate::function`, and that are not public there."""
+    for path in PAGES:
+        for name in sorted(set(NAMED.findall(open(path, encoding="utf-8").read())) - public):
+            yield "%s: there is no public function %s" % (path, name)
+
+
 def main():
-    faults, calls = [], 0
+    faults, calls, public = [], 0, set()
     page = open(PAGE, encoding="utf-8").read()
     rows, parts = rows_in(page), parts_in(page)
     for path in sorted(glob.glob("crates/*/src/**/*.rt", recursive=True)):
         for function, kinds in public_functions(open(path, encoding="utf-8").read()):
             name = "%s::%s" % (path.split(os.sep)[1], function)
             calls += name not in parts
+            public.add(name)
             faults += faults_of(path, function, kinds, rows.pop(name, ""), name in parts)
-    faults += ["%s: there is no public function %s" % (PAGE, name) for name in rows]
+    faults += named_in_vain(public)
     for path in sorted(glob.glob("crates/**/*.antt", recursive=True)):
         if re.search(r"(?m)^axiom |Prim\.Axiom", open(path, encoding="utf-8").read()):
             faults.append("%s has an axiom" % path)

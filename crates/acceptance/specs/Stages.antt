@@ -27,7 +27,7 @@ passes : (code : ℕ) (fault : Option ℕ) (n : ℕ) {r : Verdict} {m : ℕ} →
 passes code none n is e = (refl, cc)
 passes code (some k) n is e = absurd (let z : _≡_ {A = ℕ} 0 1 = cc in omega arith)
 
--- ---- The stages of a table
+-- ---- Code 1
 
 module _ (words : List ℕ) where
   abbrev counted : Verdict
@@ -41,44 +41,49 @@ module _ (words : List ℕ) where
   right-words true e = absurd (let z : _≡_ {A = ℕ} 0 1 = cc in omega arith)
   right-words false e = refl
 
-  module _ (n : ℕ) where
-    pub counted-nodes : {r : Verdict} → r ≡ counted → r ≡ Accepted n → (4 * n ≤ length words) × (0 < n)
-    counted-nodes is e =
-        let (right, same) = passes 1 (miscount (length words)) (countOf words) is e in
-        let (whole, some-nodes, few) = right-count (length words) (right-words (wrongCount (length words)) right) in
-        omega arith
+  pub counted-nodes : {r : Verdict} {n : ℕ} → r ≡ counted → r ≡ Accepted n → (4 * n ≤ length words) × (0 < n)
+  counted-nodes is e =
+      let (right, same) = passes 1 (miscount (length words)) (countOf words) is e in
+      let (whole, some-nodes, few) = right-count (length words) (right-words (wrongCount (length words)) right) in
+      omega arith
 
-    pub after-count : {r : Verdict} → r ≡ counted → r ≡ Accepted n → checkOf words ≡ checkNodes words (nodeAt words) n
-    unfolding checkOf
-    after-count is e =
-        let (right, same) = passes 1 (miscount (length words)) (countOf words) is e in
-        ap (λ fault. refuseAt 1 fault (checkNodes words (nodeAt words) (countOf words))) right ∙ ap (checkNodes words (nodeAt words)) same
+  pub after-count : {r : Verdict} {n : ℕ} → r ≡ counted → r ≡ Accepted n → checkOf words ≡ checkNodes words (nodeAt words) n
+  unfolding checkOf
+  after-count is e =
+      let (right, same) = passes 1 (miscount (length words)) (countOf words) is e in
+      ap (λ fault. refuseAt 1 fault (checkNodes words (nodeAt words) (countOf words))) right ∙ ap (checkNodes words (nodeAt words)) same
 
-    abbrev misfit : Option ℕ
-    misfit = firstFrom (λ k. not (fits words n k)) n 0
+-- ---- Codes 2 to 4
 
-    -- Parents are counted below each node.
-    abbrev stray : Option ℕ
-    stray = firstFrom (misplacedBelow (nodeAt words)) n 0
+module _ (words : List ℕ) (n : ℕ) where
+  abbrev misfit : Option ℕ
+  misfit = firstFrom (λ k. not (fits words n k)) n 0
 
-    abbrev nameless : Option ℕ
-    nameless = firstFrom (unbound (nodeAt words)) n 0
+  -- Parents are counted below each node.
+  abbrev stray : Option ℕ
+  stray = firstFrom (misplacedBelow (nodeAt words)) n 0
 
-    module _ (counted-first : checkOf words ≡ checkNodes words (nodeAt words) n) {r : Verdict} (is : r ≡ refuseAt 2 misfit (Accepted n)) where
-      pub fields-halt : {c p : ℕ} → r ≡ Refused c p → r ≡ checkOf words
-      fields-halt e = halts 2 misfit n (refuseAt 3 (firstFrom (misplaced (nodeAt words) n) n 0) (refuseAt 4 nameless (Accepted n))) is e ∙ sym counted-first
+  abbrev nameless : Verdict
+  nameless = refuseAt 4 (firstFrom (unbound (nodeAt words)) n 0) (Accepted n)
 
-      pub after-fields : {m : ℕ} → r ≡ Accepted m → checkOf words ≡ refuseAt 3 stray (refuseAt 4 nameless (Accepted n))
-      after-fields e =
-          let none-misfits = passes 2 misfit n is e .0 in
-          let fitting : (k : ℕ) → k < n → fits words n k ≡ true = λ k h. not-false _ (first-none (λ k. not (fits words n k)) n 0 none-misfits k (omega arith) (omega arith)) in
-          counted-first
-          ∙ ap (λ fault. refuseAt 2 fault (refuseAt 3 (firstFrom (misplaced (nodeAt words) n) n 0) (refuseAt 4 nameless (Accepted n)))) none-misfits
-          ∙ ap (λ fault. refuseAt 3 fault (refuseAt 4 nameless (Accepted n))) (misplaced-as-below words n fitting)
+  -- What is left to ask once code 2 has passed.
+  abbrev pub checkTree : Verdict
+  checkTree = refuseAt 3 stray nameless
 
-    module _ (fitted-first : checkOf words ≡ refuseAt 3 stray (refuseAt 4 nameless (Accepted n))) {r : Verdict} (is : r ≡ refuseAt 3 stray (Accepted n)) where
-      pub parents-halt : {c p : ℕ} → r ≡ Refused c p → r ≡ checkOf words
-      parents-halt e = halts 3 stray n (refuseAt 4 nameless (Accepted n)) is e ∙ sym fitted-first
+  module _ {r : Verdict} (is : r ≡ refuseAt 2 misfit (Accepted n)) where
+    pub fields-halt : {c p : ℕ} → r ≡ Refused c p → r ≡ checkNodes words (nodeAt words) n
+    fields-halt e = halts 2 misfit n (refuseAt 3 (firstFrom (misplaced (nodeAt words) n) n 0) nameless) is e
 
-      pub after-parents : {m : ℕ} → r ≡ Accepted m → checkOf words ≡ refuseAt 4 nameless (Accepted n)
-      after-parents e = fitted-first ∙ ap (λ fault. refuseAt 3 fault (refuseAt 4 nameless (Accepted n))) (passes 3 stray n is e .0)
+    pub after-fields : {m : ℕ} → r ≡ Accepted m → checkNodes words (nodeAt words) n ≡ checkTree
+    after-fields e =
+        let none-misfits = passes 2 misfit n is e .0 in
+        let fitting : (k : ℕ) → k < n → fits words n k ≡ true = λ k h. not-false _ (first-none (λ k. not (fits words n k)) n 0 none-misfits k (omega arith) (omega arith)) in
+        ap (λ fault. refuseAt 2 fault (refuseAt 3 (firstFrom (misplaced (nodeAt words) n) n 0) nameless)) none-misfits
+        ∙ ap (λ fault. refuseAt 3 fault nameless) (misplaced-as-below words n fitting)
+
+  module _ {r : Verdict} (is : r ≡ refuseAt 3 stray (Accepted n)) where
+    pub parents-halt : {c p : ℕ} → r ≡ Refused c p → r ≡ checkTree
+    parents-halt e = halts 3 stray n nameless is e
+
+    pub after-parents : {m : ℕ} → r ≡ Accepted m → checkTree ≡ nameless
+    after-parents e = ap (λ fault. refuseAt 3 fault nameless) (passes 3 stray n is e .0)

@@ -17,15 +17,17 @@ slice-aggregate-with-work c =
 
 with-work-requires : tie.Need-with-work-requires
 with-work-requires c κs =
-    let start = c .before .before .before .before .before .before in
-    room-for-work (start .pre) (start .args .work .now) (c .before .before .if1 .left)
+    let test = c .before .before in
+    let start = test .before .before .before .before in
+    room-for-work (start .pre) (start .args .work .now) (test .if1 .left)
 
 returns-2 : tie.Need-returns-2
 returns-2 c =
     let done = c .before .before .before .before in
     let test = done .before .before .before in
     let start = test .before .before .before .before in
-    answered (start .pre) (start .args .work .now) (test .if1 .left) (done .with-work .ensures .0) (done .with-work .ensures .1)
+    let (infers, zeroed) = done .with-work .ensures in
+    answered (start .pre) (start .args .work .now) (test .if1 .left) infers zeroed
 
 pub accepted-spec : {M : Type 1} → statement M
 accepted-spec =

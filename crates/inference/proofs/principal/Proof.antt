@@ -6,8 +6,9 @@ use Rattle.inference.proofs.principal.Tie as tie
 
 write-type-requires : tie.Need-write-type-requires
 write-type-requires c κs =
-    let found = c .before .before .before .before .before in
-    ready-to-write (found .types .ensures) (c .before .before .if1 .taken)
+    let test = c .before .before in
+    let found = test .before .before .before in
+    ready-to-write (found .types .ensures) (test .if1 .taken)
 
 returns : tie.Need-returns
 returns c =

@@ -28,8 +28,9 @@ nodes-holds c = search-starts
 
 nodes-again : tie.Need-nodes-again Inv-loop μ-loop Inv-nodes μ-nodes
 nodes-again c =
-    let node = c .before .before .before in
-    search-goes-on (node .nodes .inv) (c .before .before .if1 .left) (no-name-unbound (node .before .before .args .words .now) (node .nodes .k) (c .before .node-at .ensures) (c .if2 .taken))
+    let there = c .before .before in
+    let node = there .before in
+    search-goes-on (node .nodes .inv) (there .if1 .left) (no-name-unbound (node .before .before .args .words .now) (node .nodes .k) (c .before .node-at .ensures) (c .if2 .taken))
 
 loop-holds : tie.Need-loop-holds Inv-loop μ-loop Inv-nodes μ-nodes
 loop-holds c = walk-starts
@@ -51,10 +52,11 @@ loop-again c =
 
 nodes-again-2 : tie.Need-nodes-again-2 Inv-loop μ-loop Inv-nodes μ-nodes
 nodes-again-2 c =
-    let walk = c .before .before .before .before in
+    let walked = c .before .before in
+    let walk = walked .before .before in
     let read = walk .before .before in
     let node = read .before .before in
-    let found = walk-finds (walk .loop .inv) (omega arith) (c .before .before .walk-at .ensures) (c .enum-told .given .1) in
+    let found = walk-finds (walk .loop .inv) (omega arith) (walked .walk-at .ensures) (c .enum-told .given .1) in
     search-goes-on (node .nodes .inv) (read .before .if1 .left) (name-unbound (node .before .before .args .words .now) (node .nodes .k) (read .node-at .ensures) (walk .before .if2 .left) found)
 
 returns : tie.Need-returns Inv-loop μ-loop Inv-nodes μ-nodes
@@ -62,10 +64,11 @@ returns c = rw (search-ends (c .before .nodes .inv) (c .if1 .taken)) refl
 
 returns-2 : tie.Need-returns-2 Inv-loop μ-loop Inv-nodes μ-nodes
 returns-2 c =
-    let read = c .before .before .before in
+    let named = c .before .before in
+    let read = named .before in
     let node = read .before .before in
     let found = walk-ends (c .before .loop .inv) (omega arith) in
-    let lost = name-unbound (node .before .before .args .words .now) (node .nodes .k) (read .node-at .ensures) (c .before .before .if2 .left) found in
+    let lost = name-unbound (node .before .before .args .words .now) (node .nodes .k) (read .node-at .ensures) (named .if2 .left) found in
     rw (search-finds (node .nodes .inv) (read .before .if1 .left) lost) refl
 
 pub names-spec : {M : Type 1} → statement M

@@ -21,7 +21,9 @@ cast-count : tie.Need-cast-count Inv-loop μ-loop
 cast-count c = omega (arith, c .children-at .ensures .1)
 
 add-count : tie.Need-add-count Inv-loop μ-loop
-add-count c = omega (arith, c .children-at .ensures .1, c .before .before .loop .inv .2, c .before .loop-test .taken, c .before .before .before .before .fits .n)
+add-count c =
+    let loop = c .before .before in
+    omega (arith, c .children-at .ensures .1, loop .loop .inv .2, c .before .loop-test .taken, loop .before .before .fits .n)
 
 loop-again : tie.Need-loop-again Inv-loop μ-loop
 loop-again c =
@@ -31,8 +33,9 @@ loop-again c =
 
 returns : tie.Need-returns Inv-loop μ-loop
 returns c =
-    let all : c .before .loop .p ≡ c .before .before .before .args .n = omega arith in
-    (rw all at (c .before .loop .inv .1), omega arith)
+    let loop = c .before in
+    let all : loop .loop .p ≡ loop .before .before .args .n = omega arith in
+    (rw all at (loop .loop .inv .1), omega arith)
 
 pub children-spec : {M : Type 1} → statement M
 children-spec =

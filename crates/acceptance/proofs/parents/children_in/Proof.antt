@@ -24,8 +24,8 @@ returns-4 c = (rw (c .match .keys4) refl, omega arith)
 
 returns-5 : tie.Need-returns-5
 returns-5 c =
-    let r = c .match .rest in
-    (sym (leaf-has-no-child (leaf _ _ _ _ (r .0 .0 .0 .1) (r .0 .0 .1) (r .0 .1) (r .1))), omega arith)
+    let ((((first, not5), not6), not7-or-9), not8) = c .match .rest in
+    (sym (leaf-has-no-child (leaf _ _ _ _ not5 not6 not7-or-9 not8)), omega arith)
 
 pub children-in-spec : {M : Type 1} → statement M
 children-in-spec = tie.close (tie.spec returns returns-2 returns-3 returns-4 returns-5)

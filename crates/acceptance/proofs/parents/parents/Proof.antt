@@ -41,9 +41,10 @@ nodes-again c =
     let counting = c .before .before in
     let node = counting .before .before in
     let nd = nodeAt (node .before .before .args .words .now) in
-    let all : counting .loop .p ≡ node .nodes .k = omega arith in
+    let k = node .nodes .k in
+    let all : counting .loop .p ≡ k = omega arith in
     let counted = rw all at (counting .loop .inv .1) in
-    (omega arith, search-goes-on (node .nodes .inv .1) (counting .before .if1 .left) (placed-if nd (node .nodes .k) (omega arith)))
+    (omega arith, search-goes-on (node .nodes .inv .1) (counting .before .if1 .left) (placed-if nd k (omega arith)))
 
 returns : tie.Need-returns Inv-loop μ-loop Inv-nodes μ-nodes
 returns c = rw (search-ends (c .before .nodes .inv .1) (c .if1 .taken)) refl
@@ -57,7 +58,8 @@ returns-2 c =
     let p = counting .loop .p in
     let next = times-next nd k p in
     let grown = times-grow nd k (p + 1) k (omega arith) in
-    rw (search-finds (node .nodes .inv .1) (counting .before .if1 .left) (misplaced-if nd k (node .nodes .inv .0) (omega arith))) refl
+    let (past-root, searching) = node .nodes .inv in
+    rw (search-finds searching (counting .before .if1 .left) (misplaced-if nd k past-root (omega arith))) refl
 
 returns-3 : tie.Need-returns-3 Inv-loop μ-loop Inv-nodes μ-nodes
 returns-3 c =
@@ -65,7 +67,8 @@ returns-3 c =
     let node = counting .before .before in
     let all : counting .loop .p ≡ node .nodes .k = omega arith in
     let counted = rw all at (counting .loop .inv .1) in
-    rw (search-finds (node .nodes .inv .1) (counting .before .if1 .left) (misplaced-if _ _ (node .nodes .inv .0) (omega arith))) refl
+    let (past-root, searching) = node .nodes .inv in
+    rw (search-finds searching (counting .before .if1 .left) (misplaced-if _ _ past-root (omega arith))) refl
 
 pub parents-spec : {M : Type 1} → statement M
 parents-spec =

@@ -38,9 +38,10 @@ returns-2 c = no-claim
 
 returns-3 : tie.Need-returns-3 Inv-loop μ-loop
 returns-3 c =
-    let counted = c .before .before .before in
+    let enough = c .before .before in
+    let counted = enough .before in
     let words = counted .before .before .args .words .now in
-    let as-many = ap (λ m. m + 1) (sym (counted .children .ensures .0)) ∙ c .before .before .if1 .left in
+    let as-many = ap (λ m. m + 1) (sym (counted .children .ensures .0)) ∙ enough .if1 .left in
     λ e. all-placed (nodeAt words) as-many (λ j low high. c .before .loop .inv .1 j low (omega arith))
 
 pub placed-spec : {M : Type 1} → statement M

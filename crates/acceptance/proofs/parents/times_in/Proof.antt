@@ -25,8 +25,8 @@ returns-4 c = (rw (c .before .match .keys4) (omega arith), omega arith)
 
 returns-5 : tie.Need-returns-5
 returns-5 c =
-    let r = c .match .rest in
-    (rw (leaf-holds-nothing (leaf _ _ _ _ (r .0 .0 .0 .1) (r .0 .0 .1) (r .0 .1) (r .1)) _) refl, omega arith)
+    let ((((first, not5), not6), not7-or-9), not8) = c .match .rest in
+    (rw (leaf-holds-nothing (leaf _ _ _ _ not5 not6 not7-or-9 not8) _) refl, omega arith)
 
 pub times-in-spec : {M : Type 1} → statement M
 times-in-spec =

@@ -32,25 +32,29 @@ misfits-requires : tie.Need-misfits-requires Inv-loop μ-loop Inv-nodes μ-nodes
 misfits-requires c κs = (omega arith, omega arith)
 
 loop-again : tie.Need-loop-again Inv-loop μ-loop Inv-nodes μ-nodes
-loop-again c = search-goes-on (c .before .before .before .loop .inv) (c .before .before .loop-test .taken) (sym (c .before .misfits .ensures) ∙ c .if2 .left)
+loop-again c =
+    let test = c .before .before in
+    search-goes-on (test .before .loop .inv) (test .loop-test .taken) (sym (c .before .misfits .ensures) ∙ c .if2 .left)
 
 nodes-again : tie.Need-nodes-again Inv-loop μ-loop Inv-nodes μ-nodes
 nodes-again c =
-    let node = c .before .before .before in
+    let there = c .before .before in
+    let node = there .before in
     let start = node .before .before in
     let passed = fields-passed (start .args .words .now) (start .args .n) (node .nodes .k) (c .before .loop .inv) (c .loop-test .left) in
-    search-goes-on (node .nodes .inv) (c .before .before .if1 .left) passed
+    search-goes-on (node .nodes .inv) (there .if1 .left) passed
 
 returns : tie.Need-returns Inv-loop μ-loop Inv-nodes μ-nodes
 returns c = rw (search-ends (c .before .nodes .inv) (c .if1 .taken)) refl
 
 returns-2 : tie.Need-returns-2 Inv-loop μ-loop Inv-nodes μ-nodes
 returns-2 c =
-    let field = c .before .before .before in
+    let test = c .before .before in
+    let field = test .before in
     let node = field .before .before in
     let call = node .before .before in
     let found = sym (c .before .misfits .ensures) ∙ c .if2 .taken in
-    let refused = field-refused (call .args .words .now) (call .args .n) (node .nodes .k) (field .loop .inv) (c .before .before .loop-test .taken) found in
+    let refused = field-refused (call .args .words .now) (call .args .n) (node .nodes .k) (field .loop .inv) (test .loop-test .taken) found in
     rw (search-finds (node .nodes .inv) (field .before .if1 .left) refused) refl
 
 pub fields-spec : {M : Type 1} → statement M

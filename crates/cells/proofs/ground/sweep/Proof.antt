@@ -11,7 +11,7 @@ abbrev μ-loop : tie.MeasureT-loop
 μ-loop cells₀ n left₀ cells left = left
 
 loop-holds : tie.Need-loop-holds Inv-loop μ-loop
-loop-holds c = sweep-starts _ (c .before .pre .1) (c .before .pre .0)
+loop-holds c = let (unmarked, whole) = c .before .pre in sweep-starts _ whole unmarked
 
 pass-requires : tie.Need-pass-requires Inv-loop μ-loop
 pass-requires c κs = (c .before .before .loop .inv .marking, omega arith)

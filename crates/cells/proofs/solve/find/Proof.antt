@@ -11,7 +11,7 @@ abbrev μ-loop : tie.MeasureT-loop
 μ-loop cells₀ i at₀ cells at = at
 
 loop-holds : tie.Need-loop-holds Inv-loop μ-loop
-loop-holds c = nothing-shortened (c .before .pre .0) (c .before .pre .1)
+loop-holds c = let (sound, inside) = c .before .pre in nothing-shortened sound inside
 
 get-requires : tie.Need-get-requires Inv-loop μ-loop
 get-requires c κs = c .before .loop .inv .inside

@@ -18,7 +18,7 @@ returns-2 c =
     free-meeting (free .before .before .before .pre) (linked .put3 .ensures) (free .if2 .taken)
 
 returns-3 : tie.Need-returns-3
-returns-3 c = clash-meeting (c .before .before .before .before .pre) (c .before .before .if1 .left) (c .before .if2 .left) (c .if3 .taken)
+returns-3 c = let known = c .before .before in clash-meeting (known .before .before .pre) (known .if1 .left) (c .before .if2 .left) (c .if3 .taken)
 
 returns-4 : tie.Need-returns-4
 returns-4 c =

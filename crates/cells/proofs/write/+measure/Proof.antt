@@ -54,8 +54,9 @@ measure-returns-2 t c =
     let rooted = c .before .before in
     let loop = rooted .before .before in
     let root = rooted .root .ensures in
-    let leaf = root-is-leaf root (c .before .get .ensures) (loop .loop .inv .inside) (c .if2 .taken) in
-    loop .loop .inv .goes-on (measured-leaf root (loop .loop .room) (loop .before .before .pre .1 .0) leaf)
+    let inv = loop .loop .inv in
+    let leaf = root-is-leaf root (c .before .get .ensures) (inv .inside) (c .if2 .taken) in
+    inv .goes-on (measured-leaf root (loop .loop .room) (loop .before .before .pre .1 .0) leaf)
 
 measure-sub-measure : (t : ℕ) → measure-lts.Need-sub-measure (claims t) (measure-at t) measure.Post Inv-loop μ-loop
 measure-sub-measure t c = omega arith

@@ -107,7 +107,8 @@ write-write-requires t c κs =
     let some = rooted .before .before in
     let inv = some .before .loop .inv in
     let at-t = some .before .before .before .before .pre .0 in
-    (omega (arith, at-t, inv .no-more, some .if1 .left), left-part-ready inv (some .if1 .left) (rooted .root .ensures) (test .before .get .ensures) (test .if2 .left))
+    let left-over = some .if1 .left in
+    (omega (arith, at-t, inv .no-more, left-over), left-part-ready inv left-over (rooted .root .ensures) (test .before .get .ensures) (test .if2 .left))
 
 write-loop-less : (t : ℕ) → write-lts.Need-loop-less (claims t) (write-at t) write.Post Inv-loop μ-loop
 write-loop-less t c =

@@ -14,7 +14,8 @@ returns-2 : tie.Need-returns-2
 returns-2 c =
     let got = c .before in
     let (ready, leaf) = got .before .before .before .pre in
-    rw (got .get .ensures) (base-spelled ready leaf (rw (got .get .ensures) at (c .if1 .left)))
+    let read = got .get .ensures in
+    rw read (base-spelled ready leaf (rw read at (c .if1 .left)))
 
 pub leaf-spec : {M : Type 1} → statement M
 leaf-spec =

@@ -16,7 +16,8 @@ returns : tie.Need-returns
 returns c =
     let got = c .before in
     let (ready, inside, free) = got .before .before .before .pre in
-    rw (got .get-pair .ensures) (old-spelled ready free (rw (got .get-pair .ensures) at (c .if1 .taken)))
+    let read = got .get-pair .ensures in
+    rw read (old-spelled ready free (rw read at (c .if1 .taken)))
 
 add-next : tie.Need-add-next
 add-next c = omega (arith, few-numbered (c .before .before .before .before .pre .0))

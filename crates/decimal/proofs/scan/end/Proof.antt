@@ -11,8 +11,9 @@ returns-2 c = rw (c .before .s .given .1)
 
 returns-3 : tie.Need-returns-3
 returns-3 c =
-    let matched = c .before .before .before .before .before in
-    rw (matched .s2 .given .1) (c .before .before .word .ensures)
+    let taken = c .before .before in
+    let matched = taken .before .before .before in
+    rw (matched .s2 .given .1) (taken .word .ensures)
 
 pub end-spec : {M : Type 1} → statement M
 end-spec =

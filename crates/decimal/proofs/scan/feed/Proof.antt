@@ -21,8 +21,9 @@ step-requires c κs = tt
 
 loop-again : tie.Need-loop-again Inv-loop μ-loop
 loop-again c =
-    let tested = c .before .before .before .before .before in
-    fed-one (tested .before .loop .inv) (tested .loop-test .taken) (c .before .before .step .ensures)
+    let stepped = c .before .before in
+    let tested = stepped .before .before .before in
+    fed-one (tested .before .loop .inv) (tested .loop-test .taken) (stepped .step .ensures)
 
 same-length : tie.Need-same-length Inv-loop μ-loop
 same-length c = fed-length (c .before .loop .inv)

@@ -17,8 +17,8 @@ returns-4 c = rw (c .match .keys4)
 
 returns-5 : tie.Need-returns-5
 returns-5 c =
-    let rest = c .match .rest in
-    simp (ne-eqb _ _ (rest .0 .0 .0 .1), ne-eqb _ _ (rest .0 .0 .1), ne-eqb _ _ (rest .0 .1), ne-eqb _ _ (rest .1))
+    let ((((first, not9), not10), not13), not32) = c .match .rest in
+    simp (ne-eqb _ _ not9, ne-eqb _ _ not10, ne-eqb _ _ not13, ne-eqb _ _ not32)
 
 pub is-space-spec : {M : Type 1} → statement M
 is-space-spec = tie.close (tie.spec returns returns-2 returns-3 returns-4 returns-5)

@@ -8,8 +8,9 @@ use Rattle.decimal.proofs.scan.step.Tie as tie
 returns : tie.Need-returns
 unfolding scanByte
 returns c =
-    let tested = c .before .before .before .before in
-    rw (sym (tested .before .is-space .ensures) ∙ tested .if1 .taken) (c .before .before .end .ensures)
+    let ended = c .before .before in
+    let tested = ended .before .before in
+    rw (sym (tested .before .is-space .ensures) ∙ tested .if1 .taken) (ended .end .ensures)
 
 returns-2 : tie.Need-returns-2
 unfolding scanByte

@@ -38,7 +38,7 @@ number-same-length : (t : ℕ) → number-lts.Need-same-length (claims t) (numbe
 number-same-length t c = search needs
 
 number-returns : (t : ℕ) → number-lts.Need-returns (claims t) (number-at t) number.Post
-number-returns t c = one-written (search needs) (c .before .before .before .before .if1 .taken) (c .before .before .byte .ensures)
+number-returns t c = let put = c .before .before in one-written (search needs) (put .before .before .if1 .taken) (put .byte .ensures)
 
 number-number-requires : (t : ℕ) → number-lts.Need-number-requires (claims t) (number-at t) number.Post
 number-number-requires t c κs = (omega (arith, c .before .if1 .left), tt)
@@ -51,8 +51,9 @@ number-same-length-2 t c = search needs
 
 number-returns-2 : (t : ℕ) → number-lts.Need-returns-2 (claims t) (number-at t) number.Post
 number-returns-2 t c =
-    let front = c .before .before .before .before .before .before in
-    last-written (search needs) (front .before .before .if1 .left) (front .number .ensures) (c .before .before .byte2 .ensures)
+    let put = c .before .before in
+    let front = put .before .before .before .before in
+    last-written (search needs) (front .before .before .if1 .left) (front .number .ensures) (put .byte2 .ensures)
 
 pub +number-spec : {M : Type 1} → statement M
 +number-spec = close μ-number λ t. number-lts.spec (claims t)

@@ -21,8 +21,9 @@ byte-requires c κs = tt
 
 loop-again : tie.Need-loop-again Inv-loop μ-loop
 loop-again c =
-    let tested = c .before .before .before .before .before in
-    writing-more (tested .before .loop .inv) (tested .loop-test .taken) (c .before .before .byte .ensures)
+    let put = c .before .before in
+    let tested = put .before .before .before in
+    writing-more (tested .before .loop .inv) (tested .loop-test .taken) (put .byte .ensures)
 
 same-length : tie.Need-same-length Inv-loop μ-loop
 same-length c = written-length (c .before .loop .inv .so-far)

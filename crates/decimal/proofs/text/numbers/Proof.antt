@@ -21,8 +21,9 @@ spaced-number-requires c κs = tt
 
 loop-again : tie.Need-loop-again Inv-loop μ-loop
 loop-again c =
-    let tested = c .before .before .before .before .before in
-    numbers-more (tested .before .loop .inv) (tested .loop-test .taken) (c .before .before .spaced-number .ensures)
+    let put = c .before .before in
+    let tested = put .before .before .before in
+    numbers-more (tested .before .loop .inv) (tested .loop-test .taken) (put .spaced-number .ensures)
 
 same-length : tie.Need-same-length Inv-loop μ-loop
 same-length c = written-length (c .before .loop .inv .so-far .written)

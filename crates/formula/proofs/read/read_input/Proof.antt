@@ -43,8 +43,9 @@ loop-again c =
 
 same-length : tie.Need-same-length Inv-loop μ-loop
 same-length c =
-    let entered = c .before .before .before .before .before .before in
-    c .before .before .loop .inv .0 ∙ entered .before .read-piece .kept .1 .0
+    let turn = c .before .before in
+    let entered = turn .before .before .before .before in
+    turn .loop .inv .0 ∙ entered .before .read-piece .kept .1 .0
 
 same-length-2 : tie.Need-same-length-2 Inv-loop μ-loop
 same-length-2 c =

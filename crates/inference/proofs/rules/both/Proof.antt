@@ -8,8 +8,9 @@ join-requires-2 : tie.Need-join-requires-2
 join-requires-2 c κs =
     let joined = c .before .before .before .before in
     let (sound, i, j, p, q) = joined .before .before .before .pre in
-    let same = joined .join .ensures .same-length in
-    (met-sound (joined .join .ensures) (c .before .if1 .taken), rw same p, rw same q)
+    let met = joined .join .ensures in
+    let same = met .same-length in
+    (met-sound met (c .before .if1 .taken), rw same p, rw same q)
 
 returns : tie.Need-returns
 returns c =

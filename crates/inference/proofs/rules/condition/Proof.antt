@@ -8,8 +8,9 @@ use Rattle.inference.proofs.rules.condition.Tie as tie
 both-requires : tie.Need-both-requires
 both-requires c κs =
     let said = c .before .before .before .before in
-    let same = said .constant .ensures .same-length in
-    (met-sound (said .constant .ensures) (c .before .if1 .taken), omega arith, omega arith, omega arith, omega arith)
+    let met = said .constant .ensures in
+    let same = met .same-length in
+    (met-sound met (c .before .if1 .taken), omega arith, omega arith, omega arith, omega arith)
 
 returns : tie.Need-returns
 returns c =

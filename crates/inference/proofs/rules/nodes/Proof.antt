@@ -20,7 +20,7 @@ loop-holds : tie.Need-loop-holds Inv-loop μ-loop
 loop-holds c = (omega arith, no-node-yet (c .before .before .pre))
 
 node-requires : tie.Need-node-requires Inv-loop μ-loop
-node-requires c κs = next-ready (c .before .before .before .before .before .pre) (c .before .loop-test .taken) (c .before .before .loop .inv .1)
+node-requires c κs = let loop = c .before .before in next-ready (loop .before .before .before .pre) (c .before .loop-test .taken) (loop .loop .inv .1)
 
 loop-again : tie.Need-loop-again Inv-loop μ-loop
 loop-again c =

@@ -8,8 +8,9 @@ use Rattle.table.proofs.binders.binder.Tie as tie
 
 returns : tie.Need-returns
 returns c =
-    let read = c .before .before .node-at .ensures in
-    rw (lt-ltb _ _ (c .before .before .before .if1 .taken), read-name _ _ (rw read at (c .before .if2 .taken))) (rw read at (c .lookup .ensures))
+    let node = c .before .before in
+    let read = node .node-at .ensures in
+    rw (lt-ltb _ _ (node .before .if1 .taken), read-name _ _ (rw read at (c .before .if2 .taken))) (rw read at (c .lookup .ensures))
 
 returns-2 : tie.Need-returns-2
 returns-2 c = rw (lt-ltb _ _ (c .before .before .if1 .taken), read-no-name _ _ (rw (c .before .node-at .ensures) at (c .if2 .left))) refl

@@ -19,8 +19,8 @@ returns-4 c = rw (let-met _ _ _ _ _ _ (c .before .match .keys4)) (c .in-let .ens
 
 returns-5 : tie.Need-returns-5
 returns-5 c =
-    let r = c .match .rest in
-    rw (leaf-is-no-parent (leaf _ _ _ _ (r .0 .0 .0 .1) (r .0 .0 .1) (r .0 .1) (r .1)) _ _) refl
+    let ((((first, not5), not6), not7-or-9), not8) = c .match .rest in
+    rw (leaf-is-no-parent (leaf _ _ _ _ not5 not6 not7-or-9 not8) _ _) refl
 
 pub meet-at-spec : {M : Type 1} → statement M
 meet-at-spec =

@@ -5,9 +5,10 @@ use Rattle.table.proofs.nodes.read.Tie as tie
 
 returns-2 : tie.Need-returns-2
 returns-2 c =
+    let second = c .before .before in
     λ t. record {
-      kind = c .before .before .before .word-or-zero .ensures t;
-      a = c .before .before .word-or-zero2 .ensures t;
+      kind = second .before .word-or-zero .ensures t;
+      a = second .word-or-zero2 .ensures t;
       b = c .before .word-or-zero3 .ensures t;
       c = c .word-or-zero4 .ensures t;
     }
