@@ -29,7 +29,7 @@ unfolding apply
 constants_have_no_variable s unit_element = refl
 constants_have_no_variable s (boolean b) = refl
 constants_have_no_variable s (integer n) = refl
-constants_have_no_variable s (operator o) = rw gives_has_no_variable
+constants_have_no_variable s (operator o) = rw (gives_has_no_variable s o)
 
 found_specialised : (s : Subst) {Γ Δ : Env Ty} {x : Name} {τ : Ty} → Find Γ x τ Δ → Find (apply_env s Γ) x (apply s τ) (apply_env s Δ)
 unfolding apply_env
@@ -145,8 +145,8 @@ module _ {x : Name} {s : Exp} {σ : Ty} (typed : Has empty s σ) where
   unfolding sub
   substituted {e = constant c} (CONST is) = CONST is
   substituted {e = name y} d = in_name d
-  substituted {e = app e₁ e₂} (APP d₁ d₂) = APP (substituted d₁) (substituted d₂)
-  substituted {e = if_then_else e₀ e₁ e₂} (COND d₀ d₁ d₂) = COND (substituted d₀) (substituted d₁) (substituted d₂)
+  substituted {e = app e₁ e₂} (APP d₁ d₂) = APP (substituted {e = e₁} d₁) (substituted {e = e₂} d₂)
+  substituted {e = if_then_else e₀ e₁ e₂} (COND d₀ d₁ d₂) = COND (substituted {e = e₀} d₀) (substituted {e = e₁} d₁) (substituted {e = e₂} d₂)
   substituted {e = lambda y e} (ABSTR' d) = ABSTR' (in_body substituted d)
-  substituted {e = let_in y e₁ e₂} (LET d₁ d₂) = LET (substituted d₁) (in_body substituted d₂)
+  substituted {e = let_in y e₁ e₂} (LET d₁ d₂) = LET (substituted {e = e₁} d₁) (in_body substituted d₂)
   substituted {e = rec y e} (REC' d) = REC' (in_body substituted d)

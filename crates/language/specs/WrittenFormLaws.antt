@@ -80,7 +80,8 @@ module _ {s s' : Subst} where
   appearing_exchanged xs units = xs
   appearing_exchanged xs bools = xs
   appearing_exchanged xs ints = xs
-  appearing_exchanged xs (arrows x₁ x₂) = appearing_exchanged (appearing_exchanged xs x₁) x₂
+  appearing_exchanged {αs} {βs} xs (arrows {τ₁} {τ₂} {τ₁'} {τ₂'} x₁ x₂) =
+      appearing_exchanged {αs = appearing αs τ₁} {βs = appearing βs τ₁'} (appearing_exchanged xs x₁) x₂
   appearing_exchanged {αs} {βs} xs (vars {α} {β} x) = rw (among_exchanged x xs) (go (is_among β βs))
     where
       go : (t : Bool) → ExchangedAll s s' (cond t αs (αs ++ α ∷ [])) (cond t βs (βs ++ β ∷ []))
