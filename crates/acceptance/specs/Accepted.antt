@@ -6,7 +6,7 @@ use Rattle.std.proofs.Math.Option.{Option, none, some}
 use Rattle.std.proofs.Math.Decide.{ℕ_discrete}
 use Rattle.std.proofs.lemmas.Bool.{eqb-false, not-false}
 use Rattle.language.specs.Expression.{Name, Closed}
-use Rattle.language.specs.MostGeneral.{or_false}
+use Rattle.language.proofs.MostGeneral.{or_false}
 use Rattle.table.specs.Node.{Node, Nodes, constant_node, name_node, application_node, if_node, lambda_node, let_node, rec_node, Field, Kid, node_at, count_of}
 use Rattle.table.specs.Scope.{scope, first_named, name_of, binder_for}
 use Rattle.acceptance.specs.Refusals.{wrong_count, fits, times_below, misplaced, is_some, unbound, first_from, refuse_at, check_nodes, check_of}

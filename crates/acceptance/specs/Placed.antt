@@ -10,7 +10,7 @@ use Rattle.std.proofs.Common.{add-one, ne_eqb}
 use Rattle.table.specs.Node.{Node, Nodes, field_a, field_b, field_c, child}
 use Rattle.table.specs.Walk.{holds}
 use Rattle.language.specs.Once.{once}
-use Rattle.language.specs.Count.{once_small}
+use Rattle.language.proofs.Count.{once_small}
 use Rattle.acceptance.specs.Refusals.{times_in, times_below, is_some, first_from}
 use Rattle.acceptance.specs.Counting.{misplaced_below, children_in, children_below}
 use Rattle.acceptance.specs.Parents.{times_grow, times_next, placed_if}

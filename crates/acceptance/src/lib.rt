@@ -1,4 +1,6 @@
 // The check of a formula table: refusals 1 to 4, in order.
+#![tactic(auto)]
+
 mod names;
 mod parents;
 mod rules;

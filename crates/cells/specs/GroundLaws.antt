@@ -4,7 +4,7 @@ use Rattle.std.proofs.Common.{sym, ◌∙◌, ap, subst, inl, inr, ⊎_elim, ari
 use Rattle.std.proofs.Math.Decide.{ℕ_discrete, dec_lt}
 use Rattle.std.proofs.Math.ListN.{get_or-eq_default}
 use Rattle.language.specs.Ty.{unit, bool, int, ◌⇒◌, var, Subst}
-use Rattle.language.specs.Count.{count, count_changed, count_bound, count_all, count_none, count_some}
+use Rattle.language.proofs.Count.{count, count_changed, count_bound, count_all, count_none, count_some}
 use Rattle.cells.specs.Grounding.{MarkingAt, Unmarked, no_mark, unmarked, Waits, Evaluates, Marking, LeansOrEvaluates, Settled, UnmarkedBelow, Progress}
 use Rattle.cells.specs.Interface.{GroundedOrNone, GroundTested}
 use Rattle.cells.specs.Cells.{Cell, free, link, unit_cell, bool_cell, int_cell, arrow_cell, Sat, ev_free, ev_link, ev_unit, ev_bool, ev_int, ev_arrow}

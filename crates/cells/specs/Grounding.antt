@@ -1,7 +1,7 @@
 -- Does every cell evaluate? What the parts of the test do.
 use Rattle.std.specs.Prelude.{ℕ, ◌+◌, ◌<◌, ◌≡◌, Bool, true, false, List, eqb}
 use Rattle.language.specs.Ty.{Ty}
-use Rattle.language.specs.Count.{count}
+use Rattle.language.proofs.Count.{count}
 use Rattle.cells.specs.Layout.{no_pair, pair_at, store_of, cells_in, Sound, SameCells}
 use Rattle.cells.specs.Interface.{Unnumbered}
 use Rattle.cells.specs.Cells.{Ev}

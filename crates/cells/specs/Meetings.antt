@@ -5,7 +5,7 @@ use Rattle.std.proofs.Math.Path.{ap}
 use Rattle.std.proofs.Math.Dec.{eqb}
 use Rattle.language.specs.Ty.{Subst}
 use Rattle.language.specs.Once.{once}
-use Rattle.language.specs.Count.{count_changed}
+use Rattle.language.proofs.Count.{count_changed}
 use Rattle.cells.specs.Layout.{Allowed, cell_at, pair_at, store_of, cells_in, Sound}
 use Rattle.cells.specs.Solving.{IsRoot, Rooted, is_link_in, links_in, TwoRoots, Joined, EncounterIs, Meeting}
 use Rattle.cells.specs.Cells.{Sat}

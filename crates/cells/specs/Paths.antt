@@ -5,7 +5,7 @@ use Rattle.std.proofs.Math.Path.{ap}
 use Rattle.std.proofs.Math.Decide.{ℕ_discrete}
 use Rattle.std.proofs.Math.Dec.{eqb}
 use Rattle.language.specs.Ty.{Subst}
-use Rattle.language.specs.Count.{count_same}
+use Rattle.language.proofs.Count.{count_same}
 use Rattle.cells.specs.Solving.{Rooted, is_link_in, links_in, Shortened}
 use Rattle.cells.specs.Cells.{link, Sat}
 use Rattle.cells.specs.CellSteps.{fits_at, path_shortened}

@@ -1,7 +1,7 @@
 -- The solver: each step keeps the satisfying valuations, and together they demand one equation more of them.
 use Rattle.std.specs.Prelude.{ℕ, suc, ◌≤◌, ◌<◌, ◌≡◌, Bool, ◌≢◌, ◌↔◌, List, eqb, length}
 use Rattle.language.specs.Ty.{Subst}
-use Rattle.language.specs.Count.{count}
+use Rattle.language.proofs.Count.{count}
 use Rattle.cells.specs.Cells.{Sat}
 use Rattle.cells.specs.Interface.{Sayable}
 use Rattle.cells.specs.Layout.{cell_at, pair_at, store_of, cells_in, Sound}

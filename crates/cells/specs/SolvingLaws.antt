@@ -5,7 +5,7 @@ use Rattle.std.proofs.Math.Path.{ap}
 use Rattle.std.proofs.Math.Decide.{ℕ_discrete}
 use Rattle.std.proofs.Math.Dec.{eqb}
 use Rattle.language.specs.Ty.{Subst}
-use Rattle.language.specs.Count.{count_same, count_but_0}
+use Rattle.language.proofs.Count.{count_same, count_but_0}
 use Rattle.cells.specs.Cells.{Sat}
 use Rattle.cells.specs.Layout.{cell_at, pair_at, store_of, cells_in, Sound}
 use Rattle.cells.specs.StoreLaws.{store_beside, sound_beside}

@@ -4,7 +4,7 @@ use Rattle.std.proofs.lemmas.List.Edits.{sets}
 use Rattle.language.specs.Ty.{Ty}
 use Rattle.language.specs.Unification.{size}
 use Rattle.language.specs.WrittenForm.{is_among, appearing, place_in, spell}
-use Rattle.language.specs.Count.{count}
+use Rattle.language.proofs.Count.{count}
 use Rattle.cells.specs.Cells.{Ev}
 use Rattle.cells.specs.Layout.{cell_at, pair_at, cells_in, store_of, Sound}
 use Rattle.cells.specs.declared.write.Rest.{Rest}

@@ -12,7 +12,7 @@ use Rattle.std.proofs.Math.Seq.{drop-length, length-take-le}
 use Rattle.language.specs.Ty.{Ty, ◌⇒◌, var}
 use Rattle.language.specs.Unification.{size}
 use Rattle.language.specs.WrittenForm.{is_among, appearing, spell, words_of}
-use Rattle.language.specs.Count.{count, count_bound, count_changed, none_counted}
+use Rattle.language.proofs.Count.{count, count_bound, count_changed, none_counted}
 use Rattle.cells.specs.Interface.{Unnumbered, TypeWritten, fits, over, CellWritten}
 use Rattle.cells.specs.Cells.{Ev}
 use Rattle.cells.specs.Grounded.{ev_at}

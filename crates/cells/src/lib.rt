@@ -1,5 +1,7 @@
 // Type cells in a lent slice of words: each is an unknown type with what is known of it. Equations between them are solved as they are said,
 // and then the type of a cell is written out.
+#![tactic(auto)]
+
 mod ground;
 mod memory;
 mod solve;

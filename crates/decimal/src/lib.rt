@@ -1,4 +1,6 @@
 // Numbers in decimal: an input is scanned into words, and numbers are written into a text.
+#![tactic(auto)]
+
 mod scan;
 mod text;
 

@@ -8,7 +8,7 @@ use Rattle.language.specs.Environment.{empty}
 use Rattle.language.specs.Typing.{Has}
 use Rattle.language.specs.Principal.{Principal}
 use Rattle.language.specs.Unification.{Unified, solution, unsolvable, Right, unify}
-use Rattle.language.specs.UnificationCorrect.{unify_right}
+use Rattle.language.proofs.UnificationCorrect.{unify_right}
 use Rattle.table.specs.Node.{Nodes}
 use Rattle.table.specs.Walk.{climb_from}
 use Rattle.table.specs.Scope.{first_named}

@@ -5,7 +5,7 @@ use Rattle.std.proofs.Math.Decide.{ℕ_discrete}
 use Rattle.std.proofs.Common.{arith}
 use Rattle.language.specs.Ty.{Subst}
 use Rattle.language.specs.Unification.{Solves, none_left}
-use Rattle.language.specs.MostGeneral.{solves_append, solves_split}
+use Rattle.language.proofs.MostGeneral.{solves_append, solves_split}
 use Rattle.table.specs.Node.{Nodes}
 use Rattle.equations.specs.Equations.{equations_at, equations_below}
 

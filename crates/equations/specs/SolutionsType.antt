@@ -6,9 +6,9 @@ use Rattle.std.proofs.Math.Option.{some}
 use Rattle.language.specs.Ty.{Subst, apply}
 use Rattle.language.specs.Environment.{empty}
 use Rattle.language.specs.Typing.{Has, CONST, APP, COND, LET, ABSTR', REC'}
-use Rattle.language.specs.TypingLaws.{constants_have_no_variable}
+use Rattle.language.proofs.TypingLaws.{constants_have_no_variable}
 use Rattle.language.specs.Unification.{Solves, none_left, also}
-use Rattle.language.specs.MostGeneral.{first_solved}
+use Rattle.language.proofs.MostGeneral.{first_solved}
 use Rattle.table.specs.Node.{Node, Nodes, constant_node, name_node, application_node, if_node, lambda_node, let_node, rec_node, Field, field_a, field_b, field_c, child, Kid}
 use Rattle.table.specs.Scope.{enter, scope}
 use Rattle.table.specs.ExpressionOf.{shape, exp_at}

@@ -10,7 +10,7 @@ use Rattle.language.specs.Expression.{Name, name}
 use Rattle.language.specs.Ty.{Ty, Subst, ◌⇒◌, apply}
 use Rattle.language.specs.Environment.{Env, empty, Find, here, outside}
 use Rattle.language.specs.Typing.{Has, CONST, ID, APP, COND, LET, ABSTR', REC'}
-use Rattle.language.specs.TypingLaws.{constants_have_no_variable}
+use Rattle.language.proofs.TypingLaws.{constants_have_no_variable}
 use Rattle.language.specs.Unification.{Solves, none_left, also}
 use Rattle.table.specs.Node.{Node, Nodes, constant_node, name_node, application_node, if_node, lambda_node, let_node, rec_node, Field, field_a, field_b, field_c, child, Kid}
 use Rattle.table.specs.Walk.{climb}

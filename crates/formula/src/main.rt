@@ -1,5 +1,7 @@
 // Reads the words of a formula's table from standard input, until its end or until what was read has no words however it goes on, and
 // prints the answers of inference and run.
+#![tactic(auto)]
+
 mod lines;
 mod read;
 mod respond;

@@ -1,4 +1,6 @@
 // The two entries for a host in C: tables and types as bytes, words little-endian, and one number of 64 bits for each answer.
+#![tactic(auto)]
+
 ghost use Rattle.std.specs.Prelude.{◌/◌, min, ◌≡◌, length};
 ghost use Rattle.host.specs.Entries.{packed, InfersTo, InfersOn, InferEntry, RunsTo, RunEntry};
 ghost use Rattle.host.specs.Rooms.{wrong_length, OutRoom};

@@ -8,9 +8,9 @@ use native.Mathlib.Omega.{arith}
 use Rattle.language.specs.Expression.{operator}
 use Rattle.language.specs.Ty.{Ty, unit, bool, int, ◌⇒◌, Subst, apply}
 use Rattle.language.specs.Typing.{gives, type_of}
-use Rattle.language.specs.TypingLaws.{constants_have_no_variable}
+use Rattle.language.proofs.TypingLaws.{constants_have_no_variable}
 use Rattle.language.specs.Unification.{◌≐◌, Solves, none_left, also}
-use Rattle.language.specs.MostGeneral.{first_solved}
+use Rattle.language.proofs.MostGeneral.{first_solved}
 use Rattle.language.specs.Numbers.{operator_at}
 use Rattle.table.specs.Node.{Node, node_of, node_at, count_of}
 use Rattle.table.specs.Scope.{name_of, binder_for, binder_of}

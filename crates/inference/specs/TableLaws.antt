@@ -4,7 +4,7 @@ use Rattle.std.proofs.Common.{◌∙◌, arith}
 use Rattle.std.proofs.Math.Numerals.{add-one}
 use Rattle.language.specs.Ty.{Subst}
 use Rattle.language.specs.Unification.{none_left}
-use Rattle.language.specs.MostGeneral.{solves_append, solves_split}
+use Rattle.language.proofs.MostGeneral.{solves_append, solves_split}
 use Rattle.table.specs.Node.{node_at}
 use Rattle.equations.specs.Equations.{equations_below}
 use Rattle.equations.specs.NodeByNode.{solves_each, solves_below}

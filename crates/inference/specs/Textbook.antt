@@ -7,7 +7,7 @@ use Rattle.std.proofs.Math.Option.{Option, none, some}
 use borrow.Author.Tests.{ltb-true, ltb-false, lt-ltb, le-ltb}
 use Rattle.language.specs.Ty.{Ty}
 use Rattle.language.specs.WrittenForm.{words_of}
-use Rattle.language.specs.WrittenFormLaws.{principal_same_words}
+use Rattle.language.proofs.WrittenFormLaws.{principal_same_words}
 use Rattle.table.specs.Node.{node_at}
 use Rattle.acceptance.specs.Refusals.{check_of}
 use Rattle.table.specs.ExpressionOf.{exp_at, exp_of}

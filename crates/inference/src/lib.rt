@@ -1,4 +1,6 @@
 // The call `infer`: the most general type of a formula, by type cells in a lent slice.
+#![tactic(auto)]
+
 mod rules;
 
 ghost use Rattle.std.specs.Prelude.{◌≡◌};

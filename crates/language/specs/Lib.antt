@@ -1,7 +1,6 @@
--- L2, the language of the formulas: what an expression is, how it steps, what type it has, and what is true of that. `Promises` is the
--- page to start from. Definitions and proofs stand in different files: a file of definitions is believed by reading it beside its
--- section of the lecture notes, a file of proofs is checked.
-pub mod Promises
+-- L2, the language of the formulas: what an expression is, how it steps, and what type it has. What is true of that stands in `proofs/`,
+-- where `Promises` is the page to start from: a definition is believed by reading it beside its section of the lecture notes, a proof is
+-- checked.
 -- Expressions and small steps.
 pub mod Expression
 pub mod Integers
@@ -11,37 +10,15 @@ pub mod FinalSubstitution
 pub mod SmallStep
 pub mod Move
 pub mod AllInRange
--- What is true of them.
-pub mod IntegerLaws
-pub mod NumberLaws
-pub mod MoveDecides
-pub mod Determinism
-pub mod ClosedSteps
-pub mod RangeSteps
-pub mod NaiveIsFinal
 -- Types.
 pub mod Ty
 pub mod Environment
 pub mod Typing
 pub mod Principal
 pub mod WrittenForm
--- What is true of them.
-pub mod TyLaws
-pub mod TypingInversion
-pub mod TypingLaws
-pub mod Safety
-pub mod WrittenFormLaws
 -- Unification.
 pub mod Unification
-pub mod MostGeneral
-pub mod Elimination
-pub mod UnificationCorrect
 -- Counting.
 pub mod Once
-pub mod Count
--- Worked examples, most of them the lecture notes' own.
+-- How the lecture notes write expressions, for the examples.
 pub mod Notation
-pub mod StepExamples
-pub mod TypingExamples
-pub mod UnificationExamples
-pub mod WordExamples

@@ -1,4 +1,6 @@
 // Slices of words and bytes that a caller lends.
+#![tactic(auto)]
+
 ghost use Rattle.std.specs.Prelude.{◌+◌, ◌≤◌, ◌<◌, min, ◌≡◌, length, get_or, replicate};
 ghost use Rattle.lent.specs.Bytes.{word_of, from_bytes, bytes_of, to_bytes, overwrite};
 ghost use Rattle.lent.specs.ByteLaws.{word_at};

@@ -4,8 +4,8 @@ use Rattle.std.proofs.Common.{subst, arith}
 use Rattle.language.specs.Expression.{Exp, Closed}
 use Rattle.language.specs.SmallStep as Small
 use Rattle.language.specs.SmallStep.{Steps, done, then}
-use Rattle.language.specs.Determinism.{steps_are_deterministic}
-use Rattle.language.specs.ClosedSteps.{step_stays_closed}
+use Rattle.language.proofs.Determinism.{steps_are_deterministic}
+use Rattle.language.proofs.ClosedSteps.{step_stays_closed}
 use Rattle.table.specs.Node.{Nodes}
 use Rattle.table.specs.ExpressionOf.{exp_at}
 use Rattle.table.specs.Tree.{ClosedTree}

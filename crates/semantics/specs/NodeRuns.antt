@@ -11,7 +11,7 @@ use Rattle.language.specs.SmallStep.{Step, raised, Steps, Stuck, Diverges}
 use Rattle.language.specs.Ty.{Ty}
 use Rattle.language.specs.Environment.{empty}
 use Rattle.language.specs.Typing.{Has}
-use Rattle.language.specs.Safety.{safety}
+use Rattle.language.proofs.Safety.{safety}
 use Rattle.table.specs.Node.{Nodes}
 use Rattle.table.specs.ExpressionOf.{exp_at}
 use Rattle.table.specs.Tree.{ClosedTree}

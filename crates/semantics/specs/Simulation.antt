@@ -10,7 +10,7 @@ use Rattle.language.specs.SmallStep as Small
 use Rattle.language.specs.SmallStep.{result_of, OP, BETA_V, COND_TRUE, COND_FALSE, LET_EXEC, UNFOLD}
 use Rattle.language.specs.Move.{as_integer, as_function, move, stuck}
 use Rattle.language.specs.Move as Moves
-use Rattle.language.specs.MoveDecides.{value_is_move, move_is_stuck}
+use Rattle.language.proofs.MoveDecides.{value_is_move, move_is_stuck}
 use Rattle.table.specs.Node.{Node, Nodes, constant_node, name_node, application_node, if_node, lambda_node, let_node, rec_node, Field, field_a, field_b, field_c, child, Kid}
 use Rattle.table.specs.ExpressionOf.{shape, exp_at}
 use Rattle.table.specs.Tree.{Descending}

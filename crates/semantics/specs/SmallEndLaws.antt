@@ -5,8 +5,8 @@ use Rattle.language.specs.Expression.{Value, Exp, constant_value, lambda_value, 
 use Rattle.language.specs.Integers.{Exception}
 use Rattle.language.specs.SmallStep.{next, raised, Step, Stuck, Steps, done, then, Diverges}
 use Rattle.language.specs.Move.{Move, steps, value, stuck, move}
-use Rattle.language.specs.MoveDecides.{value_is_move, step_is_move, stuck_is_move}
-use Rattle.language.specs.Determinism.{values_do_not_step, steps_are_deterministic}
+use Rattle.language.proofs.MoveDecides.{value_is_move, step_is_move, stuck_is_move}
+use Rattle.language.proofs.Determinism.{values_do_not_step, steps_are_deterministic}
 use Rattle.semantics.specs.Answer.{DefinedAnswer, unit_answer, function_answer, exception_answer, stuck_answer}
 use Rattle.semantics.specs.SmallEnd.{Function, a_lambda, an_operator, an_operator_with, EndsAs, an_integer, a_boolean, the_unit, a_function, an_exception, got_stuck}
 use Rattle.semantics.specs.Reached.{answer_for}

@@ -8,8 +8,8 @@ use Rattle.language.specs.Substitution.{sub}
 use Rattle.language.specs.SmallStep as Small
 use Rattle.language.specs.SmallStep.{raised, APP_LEFT, APP_LEFT_EXN, APP_RIGHT, APP_RIGHT_EXN, COND_EVAL, COND_EVAL_EXN, LET_EVAL, LET_EVAL_EXN}
 use Rattle.language.specs.Move.{move}
-use Rattle.language.specs.MoveDecides.{value_is_move, move_is_stuck, stuck_is_move}
-use Rattle.language.specs.ClosedSteps.{sub_closed}
+use Rattle.language.proofs.MoveDecides.{value_is_move, move_is_stuck, stuck_is_move}
+use Rattle.language.proofs.ClosedSteps.{sub_closed}
 use Rattle.table.specs.Node.{Nodes}
 use Rattle.table.specs.ExpressionOf.{exp_at}
 use Rattle.semantics.specs.Machine.{Value, Chain, Frame, evaluate}

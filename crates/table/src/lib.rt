@@ -1,4 +1,6 @@
 // The formula table: the words of a node and the binder of a name. A table is a slice of words, four for each node.
+#![tactic(auto)]
+
 mod binders;
 mod nodes;
 

@@ -1,6 +1,8 @@
 // Makes the trials on its standard input until that ends, and writes a line for each. A trial is numbers of 4 bytes, little-endian:
 // which call (0 check, 1 run, 2 infer), three numbers for it, the word count of the table, and its words. Any other call, more than
 // 2,100 words, a lent slice above 33,000 words, or an end within a trial, end the program.
+#![tactic(auto)]
+
 mod check;
 mod lines;
 mod runs;

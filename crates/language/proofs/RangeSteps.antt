@@ -3,7 +3,7 @@ use Rattle.std.specs.Prelude.{ℕ, ◌≡◌, refl, Bool, true, false, cond, eqb
 use Rattle.std.proofs.Common.{subst, arith}
 use Rattle.language.specs.Expression.{Name, integer, boolean, Exp, constant, name, app, if_then_else, lambda, let_in, rec}
 use Rattle.language.specs.Integers.{Outcome, number, truth, exception, in_range, meaning}
-use Rattle.language.specs.IntegerLaws.{meaning_in_range}
+use Rattle.language.proofs.IntegerLaws.{meaning_in_range}
 use Rattle.language.specs.Substitution.{sub}
 use Rattle.language.specs.SmallStep.{next, result_of, Step, OP, BETA_V, APP_LEFT, APP_RIGHT, COND_EVAL, COND_TRUE, COND_FALSE, LET_EVAL, LET_EXEC, UNFOLD, Steps, done, then}
 use Rattle.language.specs.AllInRange.{AllInRange}

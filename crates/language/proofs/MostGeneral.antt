@@ -6,7 +6,7 @@ use Rattle.std.proofs.Common.{◌∙◌, ap, ap₂, subst, eqb-true, eq-eqb}
 use Rattle.std.proofs.lemmas.Bool.{false≢true}
 use mathlib.Core.List.{List, [], ◌∷◌, ◌++◌}
 use Rattle.language.specs.Ty.{Ty, unit, bool, int, ◌⇒◌, var, Subst, apply, compose}
-use Rattle.language.specs.TyLaws.{apply_compose, compose_assoc}
+use Rattle.language.proofs.TyLaws.{apply_compose, compose_assoc}
 use Rattle.language.specs.Unification.{Equation, ◌≐◌, Solves, none_left, also, MostGeneralSolution, occurs, single, apply_all, Unified, solution, unsolvable, Right, after}
 
 pub or_false : (a b : Bool) → (a || b) ≡ false → (a ≡ false) × (b ≡ false)

@@ -3,7 +3,7 @@ use Rattle.std.specs.Prelude.{ℕ, ◌≡◌}
 use Rattle.std.proofs.Common.{arith}
 use Rattle.language.specs.Expression.{Exp, Value}
 use Rattle.language.specs.SmallStep.{Result, Step, NoStep}
-use Rattle.language.specs.MoveDecides.{value_is_move, step_is_move}
+use Rattle.language.proofs.MoveDecides.{value_is_move, step_is_move}
 
 pub values_do_not_step : {v : Exp} → Value v → NoStep v
 values_do_not_step v =

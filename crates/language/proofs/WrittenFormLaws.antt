@@ -9,7 +9,7 @@ use Rattle.std.proofs.Math.ListN.{get_or-eq_default}
 use Rattle.language.specs.Expression.{Exp}
 use Rattle.language.specs.Environment.{Env}
 use Rattle.language.specs.Ty.{Ty, unit, bool, int, ◌⇒◌, var, Subst, apply, Instance}
-use Rattle.language.specs.TyLaws.{apply_compose}
+use Rattle.language.proofs.TyLaws.{apply_compose}
 use Rattle.language.specs.Principal.{Principal}
 use Rattle.language.specs.WrittenForm.{is_among, appearing, place_in, spell, words_of, Renamed}
 

@@ -15,16 +15,16 @@ use Rattle.language.specs.Typing.{Has, apply_env}
 use Rattle.language.specs.Principal.{Principal}
 use Rattle.language.specs.WrittenForm.{words_of, Renamed}
 use Rattle.language.specs.Unification.{Equation, Right, unify}
-use Rattle.language.specs.IntegerLaws as IntegerLaws
-use Rattle.language.specs.MoveDecides as MoveDecides
-use Rattle.language.specs.Determinism as Determinism
-use Rattle.language.specs.ClosedSteps as ClosedSteps
-use Rattle.language.specs.NaiveIsFinal as NaiveIsFinal
-use Rattle.language.specs.RangeSteps as RangeSteps
-use Rattle.language.specs.TypingLaws as TypingLaws
-use Rattle.language.specs.Safety as Safety
-use Rattle.language.specs.WrittenFormLaws as WrittenFormLaws
-use Rattle.language.specs.UnificationCorrect as UnificationCorrect
+use Rattle.language.proofs.IntegerLaws as IntegerLaws
+use Rattle.language.proofs.MoveDecides as MoveDecides
+use Rattle.language.proofs.Determinism as Determinism
+use Rattle.language.proofs.ClosedSteps as ClosedSteps
+use Rattle.language.proofs.NaiveIsFinal as NaiveIsFinal
+use Rattle.language.proofs.RangeSteps as RangeSteps
+use Rattle.language.proofs.TypingLaws as TypingLaws
+use Rattle.language.proofs.Safety as Safety
+use Rattle.language.proofs.WrittenFormLaws as WrittenFormLaws
+use Rattle.language.proofs.UnificationCorrect as UnificationCorrect
 
 -- ---- Small steps
 

@@ -8,7 +8,7 @@ use Rattle.language.specs.SmallStep.{Result, next, raised, result_of, Step, OP, 
 use Rattle.language.specs.Ty.{Ty, unit, bool, int, ◌⇒◌}
 use Rattle.language.specs.Environment.{Env, empty}
 use Rattle.language.specs.Typing.{gives, type_of, Has, CONST, ID, APP, COND, LET, ABSTR', REC'}
-use Rattle.language.specs.TypingLaws.{substituted}
+use Rattle.language.proofs.TypingLaws.{substituted}
 
 -- ---- Preservation
 

@@ -7,8 +7,8 @@ use Rattle.language.specs.Integers.{division_by_zero, meaning}
 use Rattle.language.specs.Substitution.{sub}
 use Rattle.language.specs.SmallStep.{next, raised, Step, OP, BETA_V, APP_LEFT, APP_RIGHT, APP_RIGHT_EXN, LET_EXEC, Stuck, Steps, done, then, Diverges}
 use Rattle.language.specs.Move.{Move, steps, value, stuck, as_function, move}
-use Rattle.language.specs.MoveDecides.{Decided, move_decides, move_is_stuck}
-use Rattle.language.specs.Determinism.{steps_are_deterministic}
+use Rattle.language.proofs.MoveDecides.{Decided, move_decides, move_is_stuck}
+use Rattle.language.proofs.Determinism.{steps_are_deterministic}
 
 -- ---- Computing
 

@@ -7,7 +7,7 @@ use mathlib.Core.List.{List, [], ◌∷◌, ◌++◌, Memᴰ}
 use Rattle.std.proofs.lemmas.Bool.{eqb-false}
 use Rattle.language.specs.Ty.{Ty, unit, bool, int, ◌⇒◌, var, Subst, apply}
 use Rattle.language.specs.Unification.{Equation, ◌≐◌, vars, vars_all, occurs, single, apply_all}
-use Rattle.language.specs.MostGeneral.{or_false}
+use Rattle.language.proofs.MostGeneral.{or_false}
 
 -- Every variable of a type, or of a list of equations, has the property.
 abbrev pub Every : (ℕ → Type 0) → Ty → Type 0
