@@ -1,0 +1,11 @@
+-- `acceptance::parents::children` meets its contract. The loop's invariant: `count` is what the nodes passed have.
+use Rattle.std.proofs.Common.{◌*◌, ◌-◌, ◌≡◌, ◌≤◌}
+use Rattle.table.specs.Node.{node_at}
+use Rattle.acceptance.specs.Counting.{children_below}
+use Rattle.acceptance.proofs.parents.children.Given as goal
+
+abbrev pub invariant-loop-p : goal.invariant-loop-p
+invariant-loop-p l = (l.p ≤ l.n) × (l.count ≡ children_below (node_at l.words) l.p) × (l.count ≤ 3 * l.p)
+
+abbrev pub decreases-loop-p : goal.decreases-loop-p
+decreases-loop-p l = l.n - l.p
