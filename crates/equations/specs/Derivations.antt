@@ -63,16 +63,23 @@ abbrev TypesKid : (ℕ → Exp) → Derivation → Env Ty → Option ℕ → Typ
 TypesKid at j Γ none = Unit
 TypesKid at j Γ (some c) = Types j Γ (at c)
 
+-- What j types it types by a derivation that it packs.
+pub taken_apart : {j : Derivation} {Γ : Env Ty} {e : Exp} → Types j Γ e → (τ : Ty) × (d : Has Γ e τ) × (packed d ≡ j)
+taken_apart (types {τ = τ} d) = (τ, d, refl)
+
 module _ (at : ℕ → Exp) where
   -- A derivation for a node has derivations for its children as premises: a line for each rule.
-  premises_type_kids : {j : Derivation} {Γ : Env Ty} (node : Node) → Types j Γ (shape at node) → (f : Field) → TypesKid at (premise j f) (inside node f (binds j) Γ) (child node f)
-  premises_type_kids (constant_node c) (types d) = λ f. tt
-  premises_type_kids (name_node x) (types d) = λ f. tt
-  premises_type_kids (application_node l r) (types (APP d₁ d₂)) = elim [ field_a ↦ types d₁ | field_b ↦ types d₂ | field_c ↦ tt ]
-  premises_type_kids (if_node e₀ e₁ e₂) (types (COND d₀ d₁ d₂)) = elim [ field_a ↦ types d₀ | field_b ↦ types d₁ | field_c ↦ types d₂ ]
-  premises_type_kids (lambda_node x e) (types (ABSTR' d)) = elim [ field_a ↦ tt | field_b ↦ types d | field_c ↦ tt ]
-  premises_type_kids (let_node x e₁ e₂) (types (LET d₁ d₂)) = elim [ field_a ↦ tt | field_b ↦ types d₁ | field_c ↦ types d₂ ]
-  premises_type_kids (rec_node x e) (types (REC' d)) = elim [ field_a ↦ tt | field_b ↦ types d | field_c ↦ tt ]
+  premises_type_kids : {Γ : Env Ty} {τ : Ty} (node : Node) (d : Has Γ (shape at node) τ) (f : Field) → TypesKid at (premise_of d f) (inside node f (type_bound d) Γ) (child node f)
+  premises_type_kids (constant_node c) d = λ f. tt
+  premises_type_kids (name_node x) d = λ f. tt
+  premises_type_kids (application_node l r) (APP d₁ d₂) = elim [ field_a ↦ types d₁ | field_b ↦ types d₂ | field_c ↦ tt ]
+  premises_type_kids (if_node e₀ e₁ e₂) (COND d₀ d₁ d₂) = elim [ field_a ↦ types d₀ | field_b ↦ types d₁ | field_c ↦ types d₂ ]
+  premises_type_kids (lambda_node x e) (ABSTR' d) = elim [ field_a ↦ tt | field_b ↦ types d | field_c ↦ tt ]
+  premises_type_kids (let_node x e₁ e₂) (LET d₁ d₂) = elim [ field_a ↦ tt | field_b ↦ types d₁ | field_c ↦ types d₂ ]
+  premises_type_kids (rec_node x e) (REC' d) = elim [ field_a ↦ tt | field_b ↦ types d | field_c ↦ tt ]
 
   pub premise_types_kid : {j : Derivation} {Γ : Env Ty} (node : Node) (f : Field) {c : ℕ} → child node f ≡ some c → Types j Γ (shape at node) → Types (premise j f) (inside node f (binds j) Γ) (at c)
-  premise_types_kid {j} {Γ} node f stands d = subst (TypesKid at (premise j f) (inside node f (binds j) Γ)) stands (premises_type_kids node d f)
+  premise_types_kid {j} {Γ} node f stands typed =
+      let (τ, d, is) = taken_apart typed in
+      let kid = subst (λ (j' : Derivation). TypesKid at (premise j' f) (inside node f (binds j') Γ) (child node f)) is (premises_type_kids node d f) in
+      subst (TypesKid at (premise j f) (inside node f (binds j) Γ)) stands kid

@@ -48,13 +48,13 @@ module _ (nodes names : ℕ → Ty) where
 
 -- An environment says one thing of a name.
 one_type : {Γ : Env Ty} {x : Name} {τ τ' : Ty} → Has Γ (name x) τ → Has Γ (name x) τ' → τ ≡ τ'
-one_type (ID found) (ID found') = same found found'
+one_type (ID found) (ID found') = same found refl found'
   where
-    same : {Γ Δ Δ' : Env Ty} {x : Name} {τ τ' : Ty} → Find Γ x τ Δ → Find Γ x τ' Δ' → τ ≡ τ'
-    same here here = refl
-    same here (outside differ g) = absurd (differ refl)
-    same (outside differ f) here = absurd (differ refl)
-    same (outside differ f) (outside differ' g) = same f g
+    same : {Γ Δ Δ' : Env Ty} {x y : Name} {τ τ' : Ty} → Find Γ x τ Δ → x ≡ y → Find Γ y τ' Δ' → τ ≡ τ'
+    same here e here = refl
+    same here e (outside differ g) = absurd (differ (sym e))
+    same (outside differ f) e here = absurd (differ e)
+    same (outside differ f) e (outside differ' g) = same f e g
 
 module _ {nd : Nodes} {n : ℕ} (t : ClosedTree nd n) (s : Subst) where
   -- A line for each rule: a derivation for a node solves the node's equations, if the types that s gives are those of the derivation and
