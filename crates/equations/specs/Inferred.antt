@@ -1,5 +1,4 @@
--- Inference of a table's type by the textbook's unification of its equations. It answers with a most general type, or with none where
--- the formula has no type.
+-- Inference of a table's type by the textbook's unification of its equations.
 use Rattle.std.specs.Prelude.{ℕ}
 use Rattle.std.proofs.Math.Option.{Option, none, some}
 use Rattle.language.specs.Expression.{Exp}
@@ -7,16 +6,11 @@ use Rattle.language.specs.Ty.{Ty}
 use Rattle.language.specs.Environment.{empty}
 use Rattle.language.specs.Typing.{Has}
 use Rattle.language.specs.Principal.{Principal}
-use Rattle.language.specs.Unification.{Unified, solution, unsolvable, Right, unify}
-use Rattle.language.proofs.UnificationCorrect.{unify_right}
+use Rattle.language.specs.Unification.{Unified, solution, unsolvable, unify}
 use Rattle.table.specs.Node.{Nodes}
 use Rattle.table.specs.Walk.{climb_from}
 use Rattle.table.specs.Scope.{first_named}
-use Rattle.table.specs.ExpressionOf.{exp_at}
-use Rattle.table.specs.Tree.{ClosedTree}
 use Rattle.equations.specs.Equations.{node_var, equations_below}
-use Rattle.equations.specs.TypingsSolve.{typing_is_solution}
-use Rattle.equations.specs.TypedExactlySolvable.{most_general_is_principal}
 
 abbrev pub root_type : Unified → Option Ty
 root_type (solution s) = some (s (node_var 0))
@@ -31,11 +25,3 @@ inferred nd n = root_type (unify (equations_below nd n))
 abbrev pub RightType : Exp → Option Ty → Type 0
 RightType e (some τ) = Principal empty e τ
 RightType e none = (τ : Ty) → ¬ Has empty e τ
-
-pub inferred_right : {nd : Nodes} {n : ℕ} → ClosedTree nd n → RightType (exp_at nd n 0) (inferred nd n)
-unfolding inferred
-inferred_right {nd} {n} t = go (unify (equations_below nd n)) (unify_right (equations_below nd n))
-  where
-    go : (a : Unified) → Right (equations_below nd n) a → RightType (exp_at nd n 0) (root_type a)
-    go (solution s) g = most_general_is_principal t g
-    go unsolvable unsolved = λ τ d. let (s, h, e) = typing_is_solution t d in unsolved s h

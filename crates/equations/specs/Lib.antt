@@ -1,13 +1,6 @@
--- The equations of a table, and what their solutions are to the typing rules. `Promises` is the page to start from.
-pub mod Promises
--- The definition.
+-- The equations of a table: what their solutions are to the typing rules stands in `proofs/`, where `Promises` is the page to start from.
 pub mod Equations
--- Solutions are typings, and typings are solutions.
-pub mod NodeByNode
 pub mod ScopeEnvironment
-pub mod SolutionsType
 pub mod Derivations
-pub mod TypingsSolve
-pub mod TypedExactlySolvable
 -- Inference by the textbook's unification.
 pub mod Inferred

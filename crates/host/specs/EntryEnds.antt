@@ -14,7 +14,7 @@ use Rattle.table.specs.ExpressionOf.{exp_of}
 use Rattle.acceptance.specs.declared.Verdict.TheVariants.{Accepted}
 use Rattle.semantics.specs.Limits.{AtLeast}
 use Rattle.semantics.specs.Answer.{DefinedAnswer, exception_answer}
-use Rattle.semantics.specs.AnswerCodes.{answers_10_to_19}
+use Rattle.semantics.proofs.AnswerCodes.{answers_10_to_19}
 use Rattle.semantics.specs.Reached.{answer_for}
 use Rattle.answers.specs.Answers.{code_of}
 use Rattle.machine.specs.Runs.{capacity_of}

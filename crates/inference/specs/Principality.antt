@@ -13,7 +13,7 @@ use Rattle.language.specs.Expression.{Exp}
 use Rattle.table.specs.Node.{node_at}
 use Rattle.table.specs.ExpressionOf.{exp_at}
 use Rattle.equations.specs.Equations.{equations_below}
-use Rattle.equations.specs.TypedExactlySolvable.{typed_exactly_solvable, most_general_is_principal}
+use Rattle.equations.proofs.TypedExactlySolvable.{typed_exactly_solvable, most_general_is_principal}
 use Rattle.cells.specs.Interface.{Started, Unnumbered, GroundTested, TypeWritten, fits, over, CellWritten, Outcome}
 use Rattle.cells.specs.Starting.{Constants, started_constants}
 use Rattle.cells.specs.Cells.{Sat, Grounds}

@@ -7,7 +7,7 @@ use Rattle.language.specs.Unification.{none_left}
 use Rattle.language.proofs.MostGeneral.{solves_append, solves_split}
 use Rattle.table.specs.Node.{node_at}
 use Rattle.equations.specs.Equations.{equations_below}
-use Rattle.equations.specs.NodeByNode.{solves_each, solves_below}
+use Rattle.equations.proofs.NodeByNode.{solves_each, solves_below}
 use Rattle.cells.specs.Interface.{Started, Outcome}
 use Rattle.cells.specs.Starting.{started_sound, started_constants}
 use Rattle.cells.specs.Outcomes.{outcome_for, outcome_then}

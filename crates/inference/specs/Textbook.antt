@@ -14,7 +14,8 @@ use Rattle.table.specs.ExpressionOf.{exp_at, exp_of}
 use Rattle.acceptance.specs.Accepted.{accepted_is_checked, count_is}
 use Rattle.acceptance.specs.declared.Verdict.{Verdict}
 use Rattle.acceptance.specs.declared.Verdict.TheVariants.{Accepted, Refused as Turned}
-use Rattle.equations.specs.Inferred.{inferred, RightType, inferred_right}
+use Rattle.equations.specs.Inferred.{inferred, RightType}
+use Rattle.equations.proofs.InferredRight.{inferred_right}
 use Rattle.inference.specs.Inference.{work_for, work_cleared, with_type, After, leaves, Infers, turned, work_short, no_type, out_short, typed}
 use Rattle.inference.specs.declared.Inferred.TheVariants.{Typed, Refused}
 

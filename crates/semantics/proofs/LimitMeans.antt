@@ -5,10 +5,10 @@ use Rattle.table.specs.Node.{Nodes}
 use Rattle.semantics.specs.Limits.{Limit, How, ended, ran_out, Room, run}
 use Rattle.semantics.specs.Machine.{End, next, start, frames_in_use}
 use Rattle.semantics.specs.Answer.{limit_answer, code, answer_of, run_nodes}
-use Rattle.semantics.specs.AnswerCodes.{end_code, limit_code}
+use Rattle.semantics.proofs.AnswerCodes.{end_code, limit_code}
 use Rattle.semantics.specs.StopsFor.{StopsFor}
-use Rattle.semantics.specs.StopsForLaws.{ran_out_stops_for}
-use Rattle.semantics.specs.FramesInUse.{frame_by_frame}
+use Rattle.semantics.proofs.StopsForLaws.{ran_out_stops_for}
+use Rattle.semantics.proofs.FramesInUse.{frame_by_frame}
 
 only_ran_out : (how : How End) {l : Limit} → answer_of how ≡ limit_answer l → how ≡ ran_out l
 only_ran_out (ended end) {l} is = absurd (omega (arith, end_code end, limit_code l, ap code is))

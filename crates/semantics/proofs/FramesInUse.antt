@@ -7,7 +7,7 @@ use Rattle.table.specs.Node.{Node, Nodes, constant_node, name_node, application_
 use Rattle.semantics.specs.Limits.{nothing, at_end, last_step, steps_to}
 use Rattle.semantics.specs.EndsIn.{frames_for}
 use Rattle.semantics.specs.Machine.{Value, unit_value, boolean_value, integer_value, operator_value, operator_with, operator_with_other, closure, Chain, empty, bound, rec_bound, Frame, left_part, holding, if_frame, let_frame, State, evaluate, return, frames_in_use, Step, newest_binding, evaluated, resulted, completed, applied, chosen, returned, next}
-use Rattle.semantics.specs.StopsForLaws.{FrameByFrame}
+use Rattle.semantics.proofs.StopsForLaws.{FrameByFrame}
 
 -- Of a step from a state with so many frames in use.
 abbrev Adds : ℕ → Step → Type 0

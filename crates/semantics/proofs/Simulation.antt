@@ -19,9 +19,9 @@ use Rattle.semantics.specs.Limits.{Need, nothing, at_end, last_step, steps_to}
 use Rattle.semantics.specs.Machine.{Value, integer_value, operator_with_other, Chain, Frame, State, End, stuck_at, Step, value_of_constant, newest_binding, evaluated, with_first, resulted, completed, applied, chosen, returned, next}
 use Rattle.semantics.specs.Answer.{end_answer}
 use Rattle.semantics.specs.SmallEnd.{EndsAs, an_exception, got_stuck}
-use Rattle.semantics.specs.Close.{Replacement, close}
-use Rattle.semantics.specs.Standing.{ValueFor, the_unit, a_boolean, an_integer, an_operator, with_integer, with_other, a_closure, ChainFor, nothing_bound, binding, rec_binding, Around, nothing_around, left_of, right_of, condition_of, bound_in, StateFor, evaluating, returning, work, frames_work, state_work}
-use Rattle.semantics.specs.StandingLaws.{is_value, value_ends, steps_around, raises_around, stuck_around, closed_inside, entered}
+use Rattle.semantics.proofs.Close.{Replacement, close}
+use Rattle.semantics.proofs.Standing.{ValueFor, the_unit, a_boolean, an_integer, an_operator, with_integer, with_other, a_closure, ChainFor, nothing_bound, binding, rec_binding, Around, nothing_around, left_of, right_of, condition_of, bound_in, StateFor, evaluating, returning, work, frames_work, state_work}
+use Rattle.semantics.proofs.StandingLaws.{is_value, value_ends, steps_around, raises_around, stuck_around, closed_inside, entered}
 
 -- What the next step of the machine is to an expression e, with so much work left.
 pub data Simulates (nd : Nodes) (n : ℕ) (e : Exp) (left : ℕ) : Step → Type 0 where

@@ -18,7 +18,7 @@ use Rattle.semantics.specs.Answer.{exception_answer, stuck_answer, run_table}
 use Rattle.semantics.specs.SmallEnd.{EndsAs}
 use Rattle.semantics.specs.Reached.{NamesLimit, answer_for, Reached}
 use Rattle.semantics.specs.StuckNodes.{ApplicationOrIf}
-use Rattle.semantics.specs.NodeRuns as NodeRuns
+use Rattle.semantics.proofs.NodeRuns as NodeRuns
 
 module _ {words : List ℕ} {n : ℕ} (checked : Checked words n) where
   -- The formula is that of as many nodes as the words have.

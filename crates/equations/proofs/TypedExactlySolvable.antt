@@ -10,8 +10,8 @@ use Rattle.table.specs.Node.{Nodes}
 use Rattle.table.specs.ExpressionOf.{exp_at}
 use Rattle.table.specs.Tree.{ClosedTree}
 use Rattle.equations.specs.Equations.{node_var, equations_below}
-use Rattle.equations.specs.SolutionsType.{solution_is_typing}
-use Rattle.equations.specs.TypingsSolve.{typing_is_solution}
+use Rattle.equations.proofs.SolutionsType.{solution_is_typing}
+use Rattle.equations.proofs.TypingsSolve.{typing_is_solution}
 
 module _ {nd : Nodes} {n : ℕ} (t : ClosedTree nd n) where
   -- With type τ at the root.

@@ -18,15 +18,15 @@ use Rattle.table.specs.Tree.{ClosedTree}
 use Rattle.semantics.specs.Limits.{How, ended, ran_out, Room, AtLeast, run}
 use Rattle.semantics.specs.Machine.{End, done, stuck_at, raised_by, next, start, frames_in_use}
 use Rattle.semantics.specs.Answer.{DefinedAnswer, exception_answer, stuck_answer, code, end_answer, answer_of, whole_answer, run_nodes}
-use Rattle.semantics.specs.AnswerCodes.{value_answer_code, exception_code, end_code, limit_code, answer_for_code}
+use Rattle.semantics.proofs.AnswerCodes.{value_answer_code, exception_code, end_code, limit_code, answer_for_code}
 use Rattle.semantics.specs.SmallEnd.{EndsAs, got_stuck, an_integer, a_boolean, the_unit, a_function, an_exception, a_lambda, an_operator, an_operator_with}
 use Rattle.semantics.specs.Reached.{NamesLimit, answer_for, Reached}
 use Rattle.semantics.specs.EndsIn.{EndsIn}
-use Rattle.semantics.specs.LimitsLaws as LimitsLaws
+use Rattle.semantics.proofs.LimitsLaws as LimitsLaws
 use Rattle.semantics.specs.StuckNodes.{ApplicationOrIf}
-use Rattle.semantics.specs.InScopeLaws as InScopeLaws
-use Rattle.semantics.specs.EndsLikeSmallSteps as EndsLikeSmallSteps
-use Rattle.semantics.specs.SmallEndLaws.{Alike, same, both_stuck, what_ends_does_not_diverge}
+use Rattle.semantics.proofs.InScopeLaws as InScopeLaws
+use Rattle.semantics.proofs.EndsLikeSmallSteps as EndsLikeSmallSteps
+use Rattle.semantics.proofs.SmallEndLaws.{Alike, same, both_stuck, what_ends_does_not_diverge}
 
 module _ {nd : Nodes} {n : ℕ} (t : ClosedTree nd n) where
   -- The formula.

@@ -15,10 +15,10 @@ use Rattle.semantics.specs.Machine.{State, End, Step, next, start}
 use Rattle.semantics.specs.Answer.{DefinedAnswer, end_answer}
 use Rattle.semantics.specs.EndsIn.{EndsIn, here, by_last_step, later}
 use Rattle.semantics.specs.SmallEnd.{EndsAs}
-use Rattle.semantics.specs.SmallEndLaws.{Final, Alike, ends_before, final_has_no_next, small_end_unique, ends_at_a_final}
-use Rattle.semantics.specs.Close.{close_nothing}
-use Rattle.semantics.specs.Standing.{StateFor, evaluating, nothing_bound, nothing_around, state_work}
-use Rattle.semantics.specs.Simulation.{Simulates, at_its_end, at_last, no_small_step, small_step, simulated}
+use Rattle.semantics.proofs.SmallEndLaws.{Final, Alike, ends_before, final_has_no_next, small_end_unique, ends_at_a_final}
+use Rattle.semantics.proofs.Close.{close_nothing}
+use Rattle.semantics.proofs.Standing.{StateFor, evaluating, nothing_bound, nothing_around, state_work}
+use Rattle.semantics.proofs.Simulation.{Simulates, at_its_end, at_last, no_small_step, small_step, simulated}
 
 module _ {nd : Nodes} {n : ℕ} (t : ClosedTree nd n) where
   start_stands : StateFor nd n start (exp_at nd n 0)

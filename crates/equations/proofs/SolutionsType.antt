@@ -16,7 +16,7 @@ use Rattle.table.specs.Tree.{ClosedTree}
 use Rattle.table.specs.TreeLaws.{climb_root, up}
 use Rattle.table.specs.ExpressionLaws.{exp_is}
 use Rattle.equations.specs.Equations.{node_var, name_var, name_equations, equations_at, equations_below}
-use Rattle.equations.specs.NodeByNode.{solves_each}
+use Rattle.equations.proofs.NodeByNode.{solves_each}
 use Rattle.equations.specs.ScopeEnvironment.{inside, env_of, env_of_kid, name_has_binder's_type}
 
 module _ {nd : Nodes} {n : ℕ} (t : ClosedTree nd n) (s : Subst) where

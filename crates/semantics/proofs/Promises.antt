@@ -21,11 +21,11 @@ use Rattle.semantics.specs.Reached.{NamesLimit, answer_for, Reached}
 use Rattle.semantics.specs.StuckNodes.{ApplicationOrIf}
 use Rattle.semantics.specs.InScope.{InScope}
 use Rattle.semantics.specs.ComesTo.{ComesTo}
-use Rattle.semantics.specs.StopsForLaws as StopsForLaws
-use Rattle.semantics.specs.LimitMeans as LimitMeans
-use Rattle.semantics.specs.AnswerCodes as AnswerCodes
-use Rattle.semantics.specs.TableRuns as TableRuns
-use Rattle.semantics.specs.InScopeLaws as InScopeLaws
+use Rattle.semantics.proofs.StopsForLaws as StopsForLaws
+use Rattle.semantics.proofs.LimitMeans as LimitMeans
+use Rattle.semantics.proofs.AnswerCodes as AnswerCodes
+use Rattle.semantics.proofs.TableRuns as TableRuns
+use Rattle.semantics.proofs.InScopeLaws as InScopeLaws
 
 module _ {words : List ℕ} {n : ℕ} (checked : Checked words n) where
   -- (a) An answer is the end of the small steps, with the value, or names what ran out.

@@ -20,7 +20,7 @@ use Rattle.table.specs.Tree.{ClosedTree}
 use Rattle.table.specs.TreeLaws.{climb_root, climb_kid, down}
 use Rattle.table.specs.ExpressionLaws.{exp_is}
 use Rattle.equations.specs.Equations.{node_var, name_var, name_equations, equations_at, equations_below}
-use Rattle.equations.specs.NodeByNode.{solves_below}
+use Rattle.equations.proofs.NodeByNode.{solves_below}
 use Rattle.equations.specs.ScopeEnvironment.{env_of, env_of_kid, name_has_binder's_type}
 use Rattle.equations.specs.Derivations.{Derivation, packed, binds, premise, Types, types, premise_types_kid}
 

@@ -9,8 +9,8 @@ use Rattle.table.specs.Node.{Nodes}
 use Rattle.table.specs.ExpressionOf.{exp_at}
 use Rattle.table.specs.Tree.{ClosedTree}
 use Rattle.equations.specs.Equations.{node_var, equations_below}
-use Rattle.equations.specs.TypedExactlySolvable as TypedExactlySolvable
-use Rattle.equations.specs.Inferred as Inferred
+use Rattle.equations.proofs.TypedExactlySolvable as TypedExactlySolvable
+use Rattle.equations.proofs.InferredRight as InferredRight
 use Rattle.equations.specs.Inferred.{inferred, RightType}
 
 module _ {nd : Nodes} {n : ℕ} (t : ClosedTree nd n) where
@@ -28,4 +28,4 @@ module _ {nd : Nodes} {n : ℕ} (t : ClosedTree nd n) where
 
   -- Inference by the textbook's unification answers with a most general type, or with none where the formula has no type.
   inferred_right : RightType (exp_at nd n 0) (inferred nd n)
-  inferred_right = Inferred.inferred_right t
+  inferred_right = InferredRight.inferred_right t
