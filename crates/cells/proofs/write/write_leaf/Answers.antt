@@ -1,0 +1,7 @@
+-- `cells::write::write_leaf` meets its contract.
+use Rattle.cells.specs.WritingLaws.{leaf_wrote}
+use Rattle.cells.proofs.write.write_leaf.Goals as goal
+
+pub returns : goal.returns
+returns c =
+    leaf_wrote c.args.out.now c.args.at c.requires.2 c.requires.3 c.leaf-w.ensures
