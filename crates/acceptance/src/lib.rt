@@ -11,7 +11,7 @@ ghost use Rattle.acceptance.specs.Refusals.{miscount, refuse_at, check_nodes, ch
 ghost use Rattle.acceptance.specs.Stages.{check_tree};
 
 // What the check of a table answers.
-#[derive(Drop)]
+#[derive(Clone, Copy)]
 pub enum Verdict {
     // The table is in order, with so many nodes.
     Accepted(u32),

@@ -19,7 +19,7 @@ use crate::write::measure;
 
 // What is known of a type. Tag 0 is nothing, 1 that it is cell a's, 2 unit, 3 bool, 4 int, 5 an arrow from cell a's to cell b's. Unused
 // fields are of no account.
-#[derive(Drop)]
+#[derive(Clone, Copy)]
 pub struct TypeCell {
     pub tag: u32,
     pub a: u32,
@@ -27,7 +27,7 @@ pub struct TypeCell {
 }
 
 // What comes of a type that is to be written.
-#[derive(Drop)]
+#[derive(Clone, Copy)]
 pub enum Written {
     // It has so many words, and they are written.
     Words(usize),

@@ -8,7 +8,7 @@ pub use scan::{end, feed};
 pub use text::{bytes, integer, numbers};
 
 // Where a scan stands.
-#[derive(Drop)]
+#[derive(Clone, Copy)]
 pub enum Scanner {
     // A token was no number, or a word was one too many.
     Failed,

@@ -18,7 +18,7 @@ use acceptance::Verdict;
 use cells::Written;
 
 // What inference of a table answers.
-#[derive(Drop)]
+#[derive(Clone, Copy)]
 pub enum Inferred {
     // 0: the most general type, of so many words, stands at the beginning of the out slice.
     Typed(usize),

@@ -8,14 +8,14 @@ pub use binders::{binder, walk_at};
 pub use nodes::{node_at, read};
 
 // Where a name is bound.
-#[derive(Drop)]
+#[derive(Clone, Copy)]
 pub enum Bound {
     At(u32),
     Nowhere,
 }
 
 // What the walk in search of a binder comes to at a node.
-#[derive(Drop)]
+#[derive(Clone, Copy)]
 pub enum Walked {
     // The binder of the name.
     Binder,
@@ -24,7 +24,7 @@ pub enum Walked {
 }
 
 // The four words of a node.
-#[derive(Drop)]
+#[derive(Clone, Copy)]
 pub struct NodeWords {
     pub kind: u32,
     pub a: u32,
