@@ -1,5 +1,5 @@
 -- Tables that are accepted and refused, computed on the definitions.
-use Rattle.std.specs.Prelude.{ℕ, ◌≡◌, refl, List, [], ◌∷◌}
+use Rattle.std.specs.Prelude.{◌≡◌, refl, [], ◌∷◌}
 use Rattle.table.specs.Node.{node_of, node_at}
 use Rattle.table.specs.Walk.{climb_from}
 use Rattle.table.specs.Scope.{first_named}

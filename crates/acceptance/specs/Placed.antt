@@ -1,7 +1,7 @@
 -- If the nodes have as many children fields as there are nodes but the root, and each node but the root stands in one, then each stands in
 -- exactly one.
 use Prim.Native.Nat.{ℕ, zero, suc, ◌+◌, ◌≤◌, ◌<◌}
-use Rattle.std.specs.Prelude.{◌≡◌, refl, Bool, true, false, eqb}
+use Rattle.std.specs.Prelude.{◌≡◌, refl, true, false, eqb}
 use Rattle.std.proofs.Math.Path.{ap}
 use Rattle.std.proofs.Math.Option.{Option, none, some}
 use Rattle.std.proofs.Math.Decide.{ℕ_discrete}

@@ -7,7 +7,7 @@ use Rattle.std.proofs.Math.Bool.{true, false}
 use Rattle.std.proofs.Math.Option.{Option, none, some}
 use Rattle.std.proofs.Math.Decide.{ℕ_discrete}
 use Rattle.table.specs.Node.{count_of}
-use Rattle.acceptance.specs.Refusals.{wrong_count, miscount, first_from, refuse_at, check_of, check_code, check_place}
+use Rattle.acceptance.specs.Refusals.{wrong_count, first_from, refuse_at, check_of, check_code, check_place}
 use Rattle.acceptance.specs.RefusedFor.{Smallest, FindsNone, breaks_rule, is_misplaced, is_unbound, RefusedFor, for_its_count, for_a_rule, for_a_parent, for_a_name}
 use Rattle.acceptance.specs.Checked.{Checked}
 use Rattle.acceptance.specs.Accepted.{accepted_is_checked, checked_is_accepted}

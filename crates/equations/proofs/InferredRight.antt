@@ -1,5 +1,4 @@
 -- Inference by the textbook's unification answers with a most general type, or with none where the formula has no type.
-use Rattle.language.specs.Ty.{Ty}
 use Rattle.language.specs.Unification.{Unified, solution, unsolvable, Right, unify}
 use Rattle.language.proofs.UnificationCorrect.{unify_right}
 use Rattle.std.specs.Prelude.{ℕ}

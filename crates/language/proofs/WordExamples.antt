@@ -2,7 +2,7 @@
 -- integers by their patterns, and the words of a type.
 use Rattle.std.specs.Prelude.{◌≡◌, refl, true, false, List, [], ◌∷◌, map, ℤ, pos, negsuc}
 use Rattle.language.specs.Integers.{Outcome, number, truth, meaning}
-use Rattle.language.specs.Numbers.{operators, operator_at, signed, pattern}
+use Rattle.language.specs.Numbers.{operators, signed, pattern}
 use Rattle.language.specs.Ty.{unit, bool, int, ◌⇒◌, var}
 use Rattle.language.specs.WrittenForm.{is_among, appearing, place_in, spell, words_of}
 

@@ -10,7 +10,6 @@ use Rattle.table.specs.Scope.{binds_in, is_named, name_of}
 use Rattle.table.specs.Asked.{words_at}
 use Rattle.table.specs.Reading.{node_in, node_from, met_in, met, above_if, binding_if, let_met}
 use Rattle.table.specs.declared.NodeWords.{NodeWords}
-use Rattle.table.specs.declared.binders.Met.{Met}
 use Rattle.table.specs.declared.binders.Met.TheVariants.{Elsewhere, Above}
 
 -- ---- Nodes by their kind

@@ -1,4 +1,4 @@
-use Rattle.std.proofs.Common.{arith, ◌-◌}
+use Rattle.std.proofs.Common.{arith}
 use Rattle.lent.specs.Writing.{writing_starts, same_length as length_kept}
 use Rattle.lent.specs.Zeroing.{word_zeroed, words_zeroed}
 use Rattle.lent.proofs.clear.Goals as goal

@@ -1,4 +1,4 @@
-use Rattle.std.proofs.Common.{arith, ◌-◌}
+use Rattle.std.proofs.Common.{arith}
 use Rattle.lent.specs.ByteLaws.{word_read, words_read}
 use Rattle.lent.specs.Writing.{writing_starts, same_length as length_kept}
 use Rattle.lent.proofs.read_words.Goals as goal

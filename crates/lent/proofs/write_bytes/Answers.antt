@@ -1,4 +1,4 @@
-use Rattle.std.proofs.Common.{arith, ◌-◌}
+use Rattle.std.proofs.Common.{arith}
 use Rattle.lent.specs.ByteLaws.{byte_written, bytes_written}
 use Rattle.lent.specs.Writing.{writing_starts, same_length as length_kept}
 use Rattle.lent.proofs.write_bytes.Goals as goal

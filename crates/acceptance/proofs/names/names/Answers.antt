@@ -1,4 +1,4 @@
-use Rattle.std.proofs.Common.{arith, refl, ◌-◌}
+use Rattle.std.proofs.Common.{arith, refl}
 use Rattle.acceptance.specs.SearchLoop.{search_starts, search_goes_on, search_finds, search_ends}
 use Rattle.table.specs.Lookup.{walk_starts, walk_goes_on, walk_finds, walk_ends}
 use Rattle.acceptance.specs.Unbound.{name_unbound, no_name_unbound}

@@ -1,4 +1,4 @@
-use Rattle.std.proofs.Common.{arith, sym, ◌-◌, ◌≡◌}
+use Rattle.std.proofs.Common.{arith, sym, ◌≡◌}
 use Rattle.table.specs.Node.{node_at}
 use Rattle.acceptance.specs.Placed.{no_children_yet, children_next}
 use Rattle.acceptance.proofs.parents.children.Goals as goal

@@ -1,5 +1,5 @@
 -- `acceptance::parents::has_parent` meets its contract.
-use Rattle.std.proofs.Common.{◌-◌, ◌≤◌}
+use Rattle.std.proofs.Common.{◌≤◌}
 use Rattle.acceptance.proofs.parents.has_parent.Given as goal
 
 abbrev pub invariant-loop-p : goal.invariant-loop-p

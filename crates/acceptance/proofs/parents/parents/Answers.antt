@@ -1,4 +1,4 @@
-use Rattle.std.proofs.Common.{arith, refl, sym, ◌+◌, ◌-◌, ◌≡◌}
+use Rattle.std.proofs.Common.{arith, refl, sym, ◌+◌, ◌≡◌}
 use Rattle.acceptance.specs.SearchLoop.{search_starts, search_goes_on, search_finds, search_ends}
 use Rattle.acceptance.specs.Parents.{times_start, times_next, times_grow, misplaced_if, placed_if}
 use Rattle.table.specs.Node.{node_at}

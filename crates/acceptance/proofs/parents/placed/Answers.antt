@@ -1,4 +1,4 @@
-use Rattle.std.proofs.Common.{ap, arith, sym, ◌+◌, ◌-◌, ◌∙◌}
+use Rattle.std.proofs.Common.{ap, arith, sym, ◌+◌, ◌∙◌}
 use Rattle.table.specs.Node.{node_at}
 use Rattle.acceptance.specs.Placed.{all_placed, parents_so_far, no_claim}
 use Rattle.acceptance.proofs.parents.placed.Goals as goal

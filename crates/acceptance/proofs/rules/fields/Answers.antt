@@ -1,4 +1,4 @@
-use Rattle.std.proofs.Common.{arith, refl, sym, ◌-◌, ◌∙◌}
+use Rattle.std.proofs.Common.{arith, refl, sym, ◌∙◌}
 use Rattle.acceptance.specs.SearchLoop.{search_starts, search_goes_on, search_finds, search_ends}
 use Rattle.acceptance.specs.FieldRules.{fields_passed, field_refused}
 use Rattle.acceptance.proofs.rules.fields.Goals as goal
