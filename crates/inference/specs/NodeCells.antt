@@ -1,5 +1,5 @@
 -- The cells of a node, of its children and of its operator's result are there.
-use Rattle.std.specs.Prelude.{ℕ, ◌-◌, ◌<◌, ◌≡◌, Bool, true, false, cond, List, ltb}
+use Rattle.std.specs.Prelude.{ℕ, ◌<◌, ◌≡◌, Bool, true, false, cond, List, ltb}
 use Rattle.std.proofs.Math.Path.{refl}
 use Rattle.std.proofs.Math.Option.{some}
 use Rattle.std.proofs.Common.{arith}

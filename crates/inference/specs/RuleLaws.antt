@@ -16,7 +16,7 @@ use Rattle.table.specs.Node.{Node, node_of, node_at, count_of}
 use Rattle.table.specs.Scope.{name_of, binder_for, binder_of}
 use Rattle.table.specs.Asked.{words_at, binder_answer, binder_in}
 use Rattle.table.specs.NodeLaws.{reads_as}
-use Rattle.table.specs.Lookup.{found_below}
+use Rattle.table.specs.Lookup.{found_below_lem}
 use Rattle.table.specs.declared.NodeWords.{NodeWords}
 use Rattle.table.specs.declared.Bound.{Bound}
 use Rattle.table.specs.declared.Bound.TheVariants.{At, Nowhere}
@@ -56,7 +56,7 @@ module _ {words : List ℕ} {k : ℕ} {mem : List ℕ} (r : NodeReady words k me
     where
       go : (x : Option ℕ) → binder_for (node_at words) k x ≡ some p → p < k
       go none h = absurd (let z : ◌≡◌ {A = ℕ} 0 1 = cc in omega arith)
-      go (some x) h = found_below (node_at words) x k k h
+      go (some x) h = found_below_lem (node_at words) x k k h
 
   pub name_solved : {after : List ℕ} {p : ℕ} {ok : Bool} → b ≡ At p → Outcome mem after (λ ρ. ρ (type_cell k) ≡ ρ (name_cell p)) ok → Outcome mem after (NameSolved words k) ok
   unfolding apply
