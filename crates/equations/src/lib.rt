@@ -1,2 +1,2 @@
-// The typing of a table as equations, as a theory: definitions and theorems stand in specs/. There is no code here.
+// The typing of a table as equations, as a theory: definitions stand in specs/, theorems in proofs/. There is no code here.
 #![tactic(auto)]

@@ -1,2 +1,2 @@
-// L2 as a theory: its definitions and theorems stand in specs/. There is no code here.
+// L2 as a theory: its definitions stand in specs/, what is true of them in proofs/. There is no code here.
 #![tactic(auto)]

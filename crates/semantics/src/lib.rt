@@ -1,2 +1,2 @@
-// The machine as a theory: its definition and what is proved of it stand in specs/. There is no code here.
+// The machine as a theory: its definition stands in specs/, what is proved of it in proofs/. There is no code here.
 #![tactic(auto)]
