@@ -2,9 +2,11 @@
 use Rattle.std.specs.Prelude.{ℕ, ◌≡◌, refl, true, false, ℤ}
 use Rattle.std.proofs.Common.{ap, subst, arith}
 use Rattle.std.proofs.Math.Option.{Option, none, some}
-use Rattle.language.specs.Expression.{Operator, Exp, Value, unit_element, boolean, integer, operator, constant, name, app, if_then_else, lambda, let_in, rec, constant_value, lambda_value, operator_value}
+use Rattle.language.specs.Expression.{Operator, Exp, Value, unit_element, boolean, integer, operator, constant, name}
+use Rattle.language.specs.Expression.{app, if_then_else, lambda, let_in, rec, constant_value, lambda_value, operator_value}
 use Rattle.language.specs.Integers.{Exception}
-use Rattle.language.specs.SmallStep.{Result, next, raised, Step, OP, BETA_V, APP_LEFT, APP_LEFT_EXN, APP_RIGHT, APP_RIGHT_EXN, COND_EVAL, COND_EVAL_EXN, COND_TRUE, COND_FALSE, LET_EVAL, LET_EVAL_EXN, LET_EXEC, UNFOLD, Stuck}
+use Rattle.language.specs.SmallStep.{Result, next, raised, Step, OP, BETA_V, APP_LEFT, APP_LEFT_EXN, APP_RIGHT, APP_RIGHT_EXN}
+use Rattle.language.specs.SmallStep.{COND_EVAL, COND_EVAL_EXN, COND_TRUE, COND_FALSE, LET_EVAL, LET_EVAL_EXN, LET_EXEC, UNFOLD, Stuck}
 use Rattle.language.specs.Move.{Move, steps, value, stuck, within, as_function, as_integer, combined, applied_as, chooses, move}
 
 -- What a move says of an expression.
@@ -99,7 +101,8 @@ unfolding move
 move_found (constant c) = constant_value
 move_found (name x) = tt
 move_found (app e₁ e₂) =
-    place (λ e. app e e₂) (λ e'. APP_LEFT) (λ ep. APP_LEFT_EXN) _ (λ v. place (app e₁) (λ e'. APP_RIGHT v) (λ ep. APP_RIGHT_EXN v) _ (application_found v) (move e₂) (move_found e₂)) (move e₁) (move_found e₁)
+    place (λ e. app e e₂) (λ e'. APP_LEFT) (λ ep. APP_LEFT_EXN) _
+    (λ v. place (app e₁) (λ e'. APP_RIGHT v) (λ ep. APP_RIGHT_EXN v) _ (application_found v) (move e₂) (move_found e₂)) (move e₁) (move_found e₁)
 move_found (if_then_else e₀ e₁ e₂) =
     place (λ e. if_then_else e e₁ e₂) (λ e'. COND_EVAL) (λ ep. COND_EVAL_EXN) _ (choice_found e₁ e₂) (move e₀) (move_found e₀)
 move_found (lambda x e) = lambda_value

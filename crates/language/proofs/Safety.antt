@@ -2,9 +2,11 @@
 use Rattle.std.specs.Prelude.{◌≡◌, refl, ◌⊎◌, Bool, true, false, ℤ, pos, negsuc, ◌+ℤ◌, ◌-ℤ◌, ◌*ℤ◌, zero, suc}
 use Rattle.std.proofs.Common.{subst, inl, inr, ⊎_elim}
 use Rattle.std.specs.Int.Signed.{quot_z, rem_z}
-use Rattle.language.specs.Expression.{Name, Operator, plus, minus, times, divide, modulo, less, greater, at_most, at_least, equal, Constant, unit_element, boolean, integer, operator, Exp, constant, app, if_then_else, lambda, Value, constant_value, lambda_value, operator_value}
+use Rattle.language.specs.Expression.{Name, Operator, plus, minus, times, divide, modulo, less, greater, at_most, at_least, equal, Constant}
+use Rattle.language.specs.Expression.{unit_element, boolean, integer, operator, Exp, constant, app, if_then_else, lambda, Value, constant_value, lambda_value, operator_value}
 use Rattle.language.specs.Integers.{Exception, Outcome, number, meaning, in_range, number_if, ranged, divided_by}
-use Rattle.language.specs.SmallStep.{Result, next, raised, result_of, Step, OP, BETA_V, APP_LEFT, APP_LEFT_EXN, APP_RIGHT, APP_RIGHT_EXN, COND_EVAL, COND_EVAL_EXN, COND_TRUE, COND_FALSE, LET_EVAL, LET_EVAL_EXN, LET_EXEC, UNFOLD, Steps, done, then, Stuck}
+use Rattle.language.specs.SmallStep.{Result, next, raised, result_of, Step, OP, BETA_V, APP_LEFT, APP_LEFT_EXN, APP_RIGHT, APP_RIGHT_EXN, COND_EVAL}
+use Rattle.language.specs.SmallStep.{COND_EVAL_EXN, COND_TRUE, COND_FALSE, LET_EVAL, LET_EVAL_EXN, LET_EXEC, UNFOLD, Steps, done, then, Stuck}
 use Rattle.language.specs.Ty.{Ty, unit, bool, int, ◌⇒◌}
 use Rattle.language.specs.Environment.{Env, empty}
 use Rattle.language.specs.Typing.{gives, type_of, Has, CONST, ID, APP, COND, LET, ABSTR', REC'}

@@ -3,7 +3,8 @@
 use Rattle.std.specs.Prelude.{◌≡◌, refl, ◌≢◌, cond, eqb}
 use Rattle.std.proofs.Common.{sym, ◌∙◌, ap, inl, inr, ⊎_elim, eq-eqb, ne_eqb}
 use Rattle.std.proofs.Math.Decide.{ℕ_discrete}
-use Rattle.language.specs.Expression.{Name, Operator, plus, minus, times, divide, modulo, less, greater, at_most, at_least, equal, Constant, unit_element, boolean, integer, operator, Exp, constant, name, app, if_then_else, lambda, let_in, rec, Free, Closed}
+use Rattle.language.specs.Expression.{Name, Operator, plus, minus, times, divide, modulo, less, greater, at_most, at_least, equal, Constant, unit_element}
+use Rattle.language.specs.Expression.{boolean, integer, operator, Exp, constant, name, app, if_then_else, lambda, let_in, rec, Free, Closed}
 use Rattle.language.specs.Substitution.{sub}
 use Rattle.language.specs.Ty.{Ty, Subst, apply}
 use Rattle.language.specs.Environment.{Env, empty, bind, Find, here, outside}

@@ -9,7 +9,8 @@ use Rattle.std.proofs.lemmas.Bool.{false≢true, eqb-false}
 use Rattle.std.proofs.Math.Dec.{eqb_refl}
 use Rattle.language.specs.Ty.{Ty, unit, bool, int, ◌⇒◌, var, Subst, apply}
 use Rattle.language.proofs.TyLaws.{identity_most_general}
-use Rattle.language.specs.Unification.{Equation, ◌≐◌, Solves, none_left, also, vars_all, occurs, single, apply_all, Unified, solution, unsolvable, Right, Case, trivial, parts, variable, clash, case_of, eliminate, by_case, rules, size, size_all, unify_within, unify}
+use Rattle.language.specs.Unification.{Equation, ◌≐◌, Solves, none_left, also, vars_all, occurs, single, apply_all, Unified, solution, unsolvable, Right}
+use Rattle.language.specs.Unification.{Case, trivial, parts, variable, clash, case_of, eliminate, by_case, rules, size, size_all, unify_within, unify}
 use Rattle.language.proofs.MostGeneral.{first_solved, rest_solved, single_most_general, after_right}
 use Rattle.language.proofs.Elimination.{Holds, all_held, fewer_held}
 

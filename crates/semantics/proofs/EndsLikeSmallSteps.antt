@@ -37,10 +37,13 @@ module _ {nd : Nodes} {n : ℕ} (t : ClosedTree nd n) where
   step_ends (no_small_step stands less) c onwards = onwards _ stands c
   step_ends (small_step d stands) c onwards = ends_before d (onwards _ stands (step_stays_closed d c))
 
+  step_simulated : {s : State} {step : Step} {e : Exp} → next nd s ≡ step → StateFor nd n s e → Closed e → Simulates nd n e (state_work nd n s) step
+  step_simulated {s} {e = e} p stands c = subst (Simulates nd n e (state_work nd n s)) p (simulated t.tree.descending stands c)
+
   ends_as : {s : State} {end : End} {i m : ℕ} (e : Exp) → EndsIn (next nd) s end i m → StateFor nd n s e → Closed e → EndsAs e (end_answer end)
-  ends_as e (here p) stands c = at_end_ends (subst (Simulates nd n e _) p (simulated t.tree.descending stands c))
-  ends_as e (by_last_step p) stands c = last_step_ends (subst (Simulates nd n e _) p (simulated t.tree.descending stands c))
-  ends_as e (later p run) stands c = step_ends (subst (Simulates nd n e _) p (simulated t.tree.descending stands c)) c (λ e' stands' c'. ends_as e' run stands' c')
+  ends_as e (here p) stands c = at_end_ends (step_simulated p stands c)
+  ends_as e (by_last_step p) stands c = last_step_ends (step_simulated p stands c)
+  ends_as e (later p run) stands c = step_ends (step_simulated p stands c) c (λ e' stands' c'. ends_as e' run stands' c')
 
   pub ends_as_small_steps : {end : End} {i m : ℕ} → EndsIn (next nd) start end i m → EndsAs (exp_at nd n 0) (end_answer end)
   ends_as_small_steps run = ends_as (exp_at nd n 0) run start_stands (root_closed t)

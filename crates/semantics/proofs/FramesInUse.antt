@@ -6,7 +6,9 @@ use Rattle.language.specs.Integers.{Outcome, number, truth, exception, meaning}
 use Rattle.table.specs.Node.{Node, Nodes, constant_node, name_node, application_node, if_node, lambda_node, let_node, rec_node}
 use Rattle.semantics.specs.Limits.{nothing, at_end, last_step, steps_to}
 use Rattle.semantics.specs.EndsIn.{frames_for}
-use Rattle.semantics.specs.Machine.{Value, unit_value, boolean_value, integer_value, operator_value, operator_with, operator_with_other, closure, Chain, empty, bound, rec_bound, Frame, left_part, holding, if_frame, let_frame, State, evaluate, return, frames_in_use, Step, newest_binding, evaluated, resulted, completed, applied, chosen, returned, next}
+use Rattle.semantics.specs.Machine.{Value, unit_value, boolean_value, integer_value, operator_value, operator_with, operator_with_other, closure}
+use Rattle.semantics.specs.Machine.{Chain, empty, bound, rec_bound, Frame, left_part, holding}
+use Rattle.semantics.specs.Machine.{if_frame, let_frame, State, evaluate, return, frames_in_use, Step, newest_binding, evaluated, resulted, completed, applied, chosen, returned, next}
 use Rattle.semantics.proofs.StopsForLaws.{FrameByFrame}
 
 -- Of a step from a state with so many frames in use.

@@ -10,10 +10,14 @@ use Rattle.table.specs.Scope.{binds_in, enter, scope, is_named, first_named}
 use Rattle.table.specs.Tree.{ClosedTree}
 use Rattle.table.specs.TreeLaws.{climb_root, climb_kid}
 use Rattle.semantics.specs.Limits.{Need, nothing, at_end, last_step, steps_to}
-use Rattle.semantics.specs.Machine.{Value, unit_value, boolean_value, integer_value, operator_value, operator_with, operator_with_other, closure, Chain, empty, bound, rec_bound, Frame, State, evaluate, End, done, stuck_at, raised_by, Step, newest_binding, evaluated, value_of_constant, with_first, resulted, completed, applied, chosen, returned, next, start}
+use Rattle.semantics.specs.Machine.{Value, unit_value, boolean_value, integer_value, operator_value, operator_with, operator_with_other, closure}
+use Rattle.semantics.specs.Machine.{Chain, empty, bound, rec_bound, Frame, State, evaluate, End}
+use Rattle.semantics.specs.Machine.{done, stuck_at, raised_by, Step, newest_binding, evaluated, value_of_constant, with_first, resulted, completed, applied, chosen, returned, next, start}
 use Rattle.semantics.specs.EndsIn.{EndsIn, here, by_last_step, later}
 use Rattle.semantics.specs.StuckNodes.{ApplicationOrIf, an_application, an_if}
-use Rattle.semantics.specs.InScope.{BindsValue, lambda_binds, let_binds, Follows, no_entry, value_entry, rec_entry, ValueInScope, unit_in_scope, boolean_in_scope, integer_in_scope, operator_in_scope, operator_with_in_scope, operator_with_other_in_scope, closure_in_scope, EnvironmentOf, environment, inside, node_is, follows, left_part_in_scope, holding_in_scope, if_frame_in_scope, let_frame_in_scope, FramesInScope, no_frame, one_more, InScope, evaluate_in_scope, return_in_scope}
+use Rattle.semantics.specs.InScope.{BindsValue, lambda_binds, let_binds, Follows, no_entry, value_entry, rec_entry, ValueInScope, unit_in_scope, boolean_in_scope}
+use Rattle.semantics.specs.InScope.{integer_in_scope, operator_in_scope, operator_with_in_scope, operator_with_other_in_scope, closure_in_scope, EnvironmentOf, environment, inside, node_is, follows}
+use Rattle.semantics.specs.InScope.{left_part_in_scope, holding_in_scope, if_frame_in_scope, let_frame_in_scope, FramesInScope, no_frame, one_more, InScope, evaluate_in_scope, return_in_scope}
 
 -- A step leads to a state that is in scope, or to an end of which P holds.
 abbrev Leads : Nodes → ℕ → (End → Type 0) → Step → Type 0

@@ -5,7 +5,8 @@ use Rattle.std.proofs.Math.Path.{◌≡◌, refl}
 use Rattle.std.proofs.Common.{sym, ◌∙◌, ap, subst, inl, inr, zero-add, lt-ltb, ltb-true}
 use Rattle.std.specs.Prelude.{Bool, true, false, ◌⊎◌, ltb}
 use native.Mathlib.Omega.{arith}
-use Rattle.semantics.specs.Limits.{Need, nothing, a_binding, a_frame, Next, at_end, last_step, steps_to, Limit, fuel_limit, binding_limit, frame_limit, How, ended, ran_out, Course, Room, ran, if_free, without_fuel, with_fuel, run_from, run, AtLeast}
+use Rattle.semantics.specs.Limits.{Need, nothing, a_binding, a_frame, Next, at_end, last_step, steps_to, Limit, fuel_limit, binding_limit, frame_limit}
+use Rattle.semantics.specs.Limits.{How, ended, ran_out, Course, Room, ran, if_free, without_fuel, with_fuel, run_from, run, AtLeast}
 use Rattle.semantics.specs.ComesTo.{bindings_for}
 use Rattle.semantics.specs.EndsIn.{EndsIn, here, by_last_step, later}
 

@@ -127,4 +127,5 @@ module _ {nd : Nodes} {n : ℕ} (t : ClosedTree nd n) where
       go (ran_out l) so is = absurd (let z : ◌≡◌ {A = ℕ} 0 1 = cc in omega arith)
       go (ended end) so is =
           let x = LimitsLaws.ended_is_end (next nd) frames_in_use room start so in
-          InScopeLaws.ends_stuck_at_application_or_if t (subst (λ (x : End). EndsIn (next nd) start x (run (next nd) frames_in_use room start).steps (run (next nd) frames_in_use room start).made) (only_stuck end is) x)
+          let whole = run (next nd) frames_in_use room start in
+          InScopeLaws.ends_stuck_at_application_or_if t (subst (λ (x : End). EndsIn (next nd) start x whole.steps whole.made) (only_stuck end is) x)

@@ -16,11 +16,13 @@ use Rattle.table.specs.ExpressionOf.{shape, exp_at}
 use Rattle.table.specs.Tree.{Descending}
 use Rattle.table.specs.ExpressionLaws.{exp_is}
 use Rattle.semantics.specs.Limits.{Need, nothing, at_end, last_step, steps_to}
-use Rattle.semantics.specs.Machine.{Value, integer_value, operator_with_other, Chain, Frame, State, End, stuck_at, Step, value_of_constant, newest_binding, evaluated, with_first, resulted, completed, applied, chosen, returned, next}
+use Rattle.semantics.specs.Machine.{Value, integer_value, operator_with_other, Chain, Frame, State, End, stuck_at, Step, value_of_constant}
+use Rattle.semantics.specs.Machine.{newest_binding, evaluated, with_first, resulted, completed, applied, chosen, returned, next}
 use Rattle.semantics.specs.Answer.{end_answer}
 use Rattle.semantics.specs.SmallEnd.{EndsAs, an_exception, got_stuck}
 use Rattle.semantics.proofs.Close.{Replacement, close}
-use Rattle.semantics.proofs.Standing.{ValueFor, the_unit, a_boolean, an_integer, an_operator, with_integer, with_other, a_closure, ChainFor, nothing_bound, binding, rec_binding, Around, nothing_around, left_of, right_of, condition_of, bound_in, StateFor, evaluating, returning, work, frames_work, state_work}
+use Rattle.semantics.proofs.Standing.{ValueFor, the_unit, a_boolean, an_integer, an_operator, with_integer, with_other, a_closure, ChainFor, nothing_bound, binding, rec_binding}
+use Rattle.semantics.proofs.Standing.{Around, nothing_around, left_of, right_of, condition_of, bound_in, StateFor, evaluating, returning, work, frames_work, state_work}
 use Rattle.semantics.proofs.StandingLaws.{is_value, value_ends, steps_around, raises_around, stuck_around, closed_inside, entered}
 
 -- What the next step of the machine is to an expression e, with so much work left.

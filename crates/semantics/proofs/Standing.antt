@@ -6,7 +6,8 @@ use Rattle.language.specs.Expression as L2
 use Rattle.language.specs.Move.{as_integer}
 use Rattle.table.specs.Node.{Nodes}
 use Rattle.table.specs.ExpressionOf.{exp_at}
-use Rattle.semantics.specs.Machine.{Value, unit_value, boolean_value, integer_value, operator_value, operator_with, operator_with_other, closure, Chain, empty, bound, rec_bound, Frame, left_part, holding, if_frame, let_frame, State, evaluate, return}
+use Rattle.semantics.specs.Machine.{Value, unit_value, boolean_value, integer_value, operator_value, operator_with, operator_with_other, closure, Chain, empty}
+use Rattle.semantics.specs.Machine.{bound, rec_bound, Frame, left_part, holding, if_frame, let_frame, State, evaluate, return}
 use Rattle.semantics.proofs.Close.{Replacement, bind, hide, close}
 
 module _ (nd : Nodes) (n : ℕ) where

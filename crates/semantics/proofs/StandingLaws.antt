@@ -17,7 +17,8 @@ use Rattle.semantics.specs.Answer.{value_answer}
 use Rattle.semantics.specs.SmallEnd.{EndsAs, a_function, a_lambda, an_operator_with}
 use Rattle.semantics.specs.SmallEnd as Ends
 use Rattle.semantics.proofs.Close.{Replacement, bind, hide, close, Apart, nothing_apart, bind_keeps_apart, put_in}
-use Rattle.semantics.proofs.Standing.{ValueFor, the_unit, a_boolean, an_integer, an_operator, with_integer, with_other, a_closure, ChainFor, nothing_bound, binding, rec_binding, Around, nothing_around, left_of, right_of, condition_of, bound_in, StateFor, evaluating}
+use Rattle.semantics.proofs.Standing.{ValueFor, the_unit, a_boolean, an_integer, an_operator, with_integer, with_other, a_closure, ChainFor, nothing_bound}
+use Rattle.semantics.proofs.Standing.{binding, rec_binding, Around, nothing_around, left_of, right_of, condition_of, bound_in, StateFor, evaluating}
 
 closed_part : {e e' : Exp} → ((x : Name) → Free x e → Free x e') → Closed e' → Closed e
 closed_part f c = record { nothing_free = λ x free. c.nothing_free x (f x free) }

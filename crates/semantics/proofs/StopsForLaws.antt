@@ -3,7 +3,8 @@ use Prim.Native.Nat.{ℕ, zero, suc, ◌+◌, ◌<◌, ◌≤◌}
 use Rattle.std.specs.Prelude.{◌≡◌, ◌≢◌, Bool, true, false, ltb}
 use Rattle.std.proofs.Math.Path.{refl}
 use Rattle.std.proofs.Common.{sym, subst, arith, ltb-true, ltb-false}
-use Rattle.semantics.specs.Limits.{Need, nothing, a_binding, a_frame, Next, at_end, last_step, steps_to, Limit, fuel_limit, binding_limit, frame_limit, ended, ran_out, Course, Room, ran, if_free, without_fuel, with_fuel, run_from, run}
+use Rattle.semantics.specs.Limits.{Need, nothing, a_binding, a_frame, Next, at_end, last_step, steps_to, Limit, fuel_limit, binding_limit}
+use Rattle.semantics.specs.Limits.{frame_limit, ended, ran_out, Course, Room, ran, if_free, without_fuel, with_fuel, run_from, run}
 use Rattle.semantics.specs.EndsIn.{frames_for}
 use Rattle.semantics.specs.ComesTo.{bindings_for, ComesTo, at_first, then_to}
 use Rattle.semantics.specs.StopsFor.{fuel_used_up, bindings_full, frames_full, StopsFor}

@@ -17,4 +17,5 @@ with_work-requires c =
 
 pub returns : goal.returns
 returns c =
-    answered c.requires c.args.work.now c.if-work-size.false c.with_work.ensures.answered c.with_work.ensures.zeroed
+    let ensured = c.with_work.ensures in
+    answered c.requires c.args.work.now c.if-work-size.false ensured.answered ensured.zeroed

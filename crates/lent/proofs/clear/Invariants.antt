@@ -5,7 +5,7 @@ use Rattle.lent.specs.Writing.{Writing}
 use Rattle.lent.proofs.clear.Given as goal
 
 abbrev pub invariant-loop-i : goal.invariant-loop-i
-invariant-loop-i l = Writing (zeros (length l.initial.store)) l.initial.store 0 l.store l.i l.i
+invariant-loop-i l = let store = l.initial.store in Writing (zeros (length store)) store 0 l.store l.i l.i
 
 abbrev pub decreases-loop-i : goal.decreases-loop-i
 decreases-loop-i l = length l.initial.store - l.i
