@@ -1,17 +1,14 @@
--- The check of a formula table: its refusals, and what acceptance says. `Promises` is the page to start from.
-pub mod Promises
+-- The check of a formula table: its refusals. What acceptance says stands in `proofs/`, where `Promises` is the page to start from.
 pub mod Examples
 -- Definitions.
 pub mod Refusals
 pub mod RefusedFor
 pub mod Checked
--- Acceptance and refusals, exactly.
+-- Acceptance and refusals.
 pub mod FirstFrom
 pub mod Times
 pub mod Fitting
 pub mod Accepted
-pub mod RefusalsExactly
-pub mod RefusedPlaces
 -- What the code computes.
 pub mod SearchLoop
 pub mod FieldRules

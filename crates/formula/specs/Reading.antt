@@ -38,7 +38,7 @@ pub record Reads (got : ℤ) : Type 0 where
   pub none_empty : NoneEmpty pieces
   pub ends : ReadingEnds pieces got
 
--- What is left to libc: the pieces are the beginning of that input, no read failed, and one that gave nothing was at its end.
+-- What is left to the system: the pieces are the beginning of that input, no read failed, and one that gave nothing was at its end.
 pub record PiecesOf (input : List ℕ) (pieces : List (List ℕ)) (got : ℤ) : Type 0 where
   pub rest : List ℕ
   pub begins : input ≡ flatten pieces ++ rest

@@ -4,15 +4,13 @@ use Rattle.std.proofs.Common.{sym, ◌∙◌, ap, arith, not-suc-le-zero, length
 use mathlib.Core.List.{List, [], ◌∷◌, ◌++◌, foldl, flatten, append-nil, append_assoc}
 use Rattle.std.specs.Int.Signed.{mag, lt_z, le_z}
 use Rattle.std.specs.Int.{w64}
-use Rattle.io.specs.Counts.{clamp_len}
-use Rattle.libc.specs.Io.{Moved}
 use Rattle.decimal.specs.Scan.{ScanState, stands, slice, scan_byte, has_failed}
 use Rattle.decimal.specs.ScanIsWordsIn.{scan_in_pieces}
 use Rattle.decimal.specs.ScanLaws.{scan_keeps_length}
 use Rattle.decimal.specs.declared.Scanner.{Scanner}
 use Rattle.decimal.specs.declared.Scanner.TheVariants.{Failed, Between, Inside}
 use Rattle.formula.specs.Reading.{NoneEmpty, no_piece, one_more, input_scanned, given_up, after_reads, ReadingEnds, at_the_end, scan_failed, read_failed, turns_used_up}
-use Rattle.formula.specs.Turns.{after_read, reads_on, has_turn, PieceRead, InputRead}
+use Rattle.formula.specs.Turns.{Moved, after_read, clamp_len, reads_on, has_turn, PieceRead, InputRead}
 use Rattle.formula.specs.declared.read.Turn.{Turn}
 
 -- ---- What a read answered
@@ -27,7 +25,7 @@ take_within n bytes = rw (← length-take n bytes) (take_the_length n bytes)
 
 -- The code passes and tests a signed number by its bits.
 pub by_its_bits : {z : ℤ} → mag z < 9223372036854775808 → to_z w64 (of_z w64 z) ≡ z
-by_its_bits fits = to_z-of_z (record { sfits = fits })
+by_its_bits fits = to_z-of_z {w = w64} (record { sfits = fits })
 
 module _ {got : ℤ} (fits : SFits w64 got) where
   pub no_further_read : (s : Scanner) → le_z (to_z w64 (of_z w64 got)) (pos 0) ≡ true → false ≡ reads_on got s

@@ -1,11 +1,25 @@
 -- What becomes of the bytes of one read, whatever it answers, and of all reads one after the other.
-use Rattle.std.specs.Prelude.{ℕ, zero, suc, ◌≡◌, Bool, false, not, cond, ltb, length, take, ℤ, pos, negsuc}
+use Rattle.std.specs.Prelude.{ℕ, zero, suc, ◌≤◌, min, ◌≡◌, Bool, false, not, cond, ltb, length, take, ℤ, pos, negsuc, Result, Ok, Err}
 use mathlib.Core.List.{List, foldl, flatten}
-use Rattle.libc.specs.Io.{Moved}
 use Rattle.decimal.specs.Scan.{ScanState, stands, scan_byte, has_failed}
 use Rattle.decimal.specs.declared.Scanner.{Scanner}
 use Rattle.formula.specs.Reading.{given_up, after_reads, Reads}
 use Rattle.formula.specs.declared.read.Turn.{Turn}
+
+-- What a read answers, as one number.
+abbrev pub read_answer : {E : Type 0} → Result ℕ E → ℤ
+read_answer (Ok n) = pos n
+read_answer (Err e) = negsuc 0
+
+-- What a read that is handed n bytes may answer: -1, or how many bytes it moved, at most n.
+abbrev pub Moved : ℕ → ℤ → Type 0
+Moved n (pos k) = k ≤ n
+Moved n (negsuc k) = k ≡ 0
+
+-- How many of a piece's bytes came.
+abbrev pub clamp_len : ℤ → ℕ → ℕ
+clamp_len (pos k) most = min k most
+clamp_len (negsuc k) most = 0
 
 -- Where a scan stands after a read: exactly the bytes that came are taken in.
 abbrev pub after_read : ScanState → ℤ → List ℕ → ScanState

@@ -8,24 +8,22 @@ mod respond;
 
 ghost use Rattle.formula.specs.Responding.{AnswersInput};
 
-use libc::{STDERR_FILENO, STDOUT_FILENO};
-
 // Prints so many bytes of a text, which answer an input whose last read answered that. Where they cannot be written, the one line `output` on
-// standard error says so: the program has nothing else to tell it by. That a write writes what it is lent is left to libc.
-fn print(got: isize, text: &[u8], count: usize)
+// standard error says so: the program has nothing else to tell it by. That a write writes what it is lent is left to the system.
+fn print<R: Print + Eprint>(rt: &R, got: isize, text: &[u8], count: usize)
     requires { AnswersInput got text.now count }
 {
-    if !io::write_all(STDOUT_FILENO, &text[..count]) {
-        let _ = io::write_all(STDERR_FILENO, b"output\n");
+    if rt.write_all(&text[..count]).is_err() {
+        let _ = rt.eprintln("output");
     }
 }
 
-fn main() {
-    let mut piece = io::buffer();
+fn main(rt: HostRuntime) {
+    let mut piece = [0u8; 4096];
     let mut words = [0u32; 2048];
     let mut text = [0u8; 1024];
-    let turn = read::read_input(&mut piece, &mut words);
+    let turn = read::read_input(&mut rt.stdin(), &mut piece, &mut words);
     let at = turn.at;
     let count = respond::respond(at, &mut words, &mut text);
-    print(turn.got, &text, count);
+    print(&rt, turn.got, &text, count);
 }

@@ -4,7 +4,7 @@ use Rattle.std.specs.Prelude.{ℕ, ◌≤◌, ◌<◌, ◌≡◌, refl, ◌⊎�
 use Rattle.std.proofs.Common.{inl, inr, ⊎_elim, arith}
 use Rattle.std.proofs.Math.Decide.{ℕ_discrete, dec_lt}
 use Rattle.table.specs.Node.{count_of}
-use Rattle.acceptance.specs.RefusedPlaces.{RefusedPlace, refused_place}
+use Rattle.acceptance.proofs.RefusedPlaces.{RefusedPlace, refused_place}
 use Rattle.inference.specs.Inference.{code_of, place_of, After, Infers, turned, work_short, no_type, out_short, typed}
 
 -- What a code and its place say, in a table of n nodes.

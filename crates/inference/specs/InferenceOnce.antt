@@ -3,7 +3,7 @@
 use Rattle.std.specs.Prelude.{ℕ, ◌≡◌, refl, List, [], ◌∷◌, ◌↔◌, get_or}
 use Rattle.std.proofs.Common.{sym, ◌∙◌, ap, subst}
 use Rattle.acceptance.specs.RefusedFor.{RefusedFor, for_its_count, for_a_rule, for_a_parent, for_a_name}
-use Rattle.acceptance.specs.RefusalsExactly.{refused_for}
+use Rattle.acceptance.proofs.RefusalsExactly.{refused_for}
 use Rattle.inference.specs.Inference.{code_of, After, Infers, turned, work_short, no_type, out_short, typed}
 use Rattle.inference.specs.Cases.{WorkShort, NoType, OutShort, TypeFits}
 use Rattle.inference.specs.Textbook.{infers_textbook}

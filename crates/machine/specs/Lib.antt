@@ -5,8 +5,6 @@ pub mod Runs
 pub mod Executing
 pub mod CodeTells
 pub mod CallReaches
--- The loop and the call.
-pub mod RunLaws
 pub mod Clearing
 pub mod RunCall
 pub mod FormulaInRange

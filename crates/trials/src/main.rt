@@ -4,6 +4,7 @@
 #![tactic(auto)]
 
 mod check;
+mod input;
 mod lines;
 mod runs;
 mod stores;
@@ -11,15 +12,22 @@ mod types;
 
 ghost use Rattle.std.specs.Prelude.{◌≡◌, length};
 
-use libc::STDIN_FILENO;
+use std::io::Read;
 
 // Makes a call and writes its line, or tells that it cannot be made. The three numbers are a run's fuel and the lengths of its bindings
 // and frames, or the lengths of inference's work and out.
-fn make_call(words: &[u32], call: u32, first: u32, second: u32, third: u32) -> bool {
+fn make_call<P: Print>(
+    to: &P,
+    words: &[u32],
+    call: u32,
+    first: u32,
+    second: u32,
+    third: u32,
+) -> bool {
     match call {
-        0 => check::check(words),
-        1 => runs::run(words, first, second as usize, third as usize),
-        2 => types::infer(words, first as usize, second as usize),
+        0 => check::check(to, words),
+        1 => runs::run(to, words, first, second as usize, third as usize),
+        2 => types::infer(to, words, first as usize, second as usize),
         _ => false,
     }
 }
@@ -37,36 +45,47 @@ fn space() -> [u32; 2100]
 }
 
 // Reads a trial's table and makes its call.
-fn with_table(call: u32, first: u32, second: u32, third: u32, count: u32) -> bool {
+fn with_table<R: Read, P: Print>(
+    from: &mut R,
+    to: &P,
+    call: u32,
+    first: u32,
+    second: u32,
+    third: u32,
+    count: u32,
+) -> bool {
     let n = count as usize;
     if 2100 < n {
         return false;
     }
     let mut bytes = room();
     let length = 4 * n;
-    if io::read_full(STDIN_FILENO, &mut bytes[..length]) < length {
+    if input::read_full(from, &mut bytes[..length]) < length {
         return false;
     }
     let mut words = space();
     lent::read_words(&bytes[..length], &mut words);
-    make_call(&words[..n], call, first, second, third)
+    make_call(to, &words[..n], call, first, second, third)
 }
 
 // Reads and makes one trial, and tells whether to go on.
-fn one_trial() -> bool {
+fn one_trial<R: Read, P: Print>(from: &mut R, to: &P) -> bool {
     let mut head = [0u8; 20];
-    if io::read_full(STDIN_FILENO, &mut head) < 20 {
+    if input::read_full(from, &mut head) < 20 {
         return false;
     }
     let mut numbers = [0u32; 5];
     lent::read_words(&head, &mut numbers);
-    with_table(numbers[0], numbers[1], numbers[2], numbers[3], numbers[4])
+    with_table(
+        from, to, numbers[0], numbers[1], numbers[2], numbers[3], numbers[4],
+    )
 }
 
 // A proved loop has to end, and nothing says that the input does: it counts down from a number that no input uses up.
-fn main() {
+fn main(rt: HostRuntime) {
+    let mut input = rt.stdin();
     let mut turns = u64::MAX;
-    while turns > 0 && one_trial() {
+    while turns > 0 && one_trial(&mut input, &rt) {
         turns -= 1;
     }
 }

@@ -7,7 +7,7 @@ use Rattle.acceptance.specs.Refusals.{check_of, check_code, check_place}
 use Rattle.acceptance.specs.RefusedFor.{RefusedFor}
 use Rattle.acceptance.specs.Checked.{Checked}
 use Rattle.acceptance.specs.Accepted as Accepted
-use Rattle.acceptance.specs.RefusalsExactly as RefusalsExactly
+use Rattle.acceptance.proofs.RefusalsExactly as RefusalsExactly
 use Rattle.acceptance.specs.declared.Verdict.TheVariants.{Accepted as Accepts}
 
 -- ---- What the codes mean

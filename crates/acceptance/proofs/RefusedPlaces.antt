@@ -5,7 +5,7 @@ use Rattle.std.proofs.Common.{arith}
 use Rattle.table.specs.Node.{count_of}
 use Rattle.acceptance.specs.Refusals.{wrong_count, check_of}
 use Rattle.acceptance.specs.RefusedFor.{RefusedFor, for_its_count, for_a_rule, for_a_parent, for_a_name}
-use Rattle.acceptance.specs.RefusalsExactly.{refused_for}
+use Rattle.acceptance.proofs.RefusalsExactly.{refused_for}
 use Rattle.acceptance.specs.Accepted.{right_count}
 use Rattle.acceptance.specs.declared.Verdict.TheVariants.{Refused}
 

@@ -1,0 +1,7 @@
+-- `formula::respond::respond` meets its contract.
+use Rattle.formula.specs.ProgramLaws.{responds}
+use Rattle.formula.proofs.respond.respond.Goals as goal
+
+pub returns : goal.returns
+returns c =
+    responds c.end-last.ensures c.lines_for.ensures

@@ -1,0 +1,2 @@
+-- The loop against the definition's run.
+pub mod RunLaws
