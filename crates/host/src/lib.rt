@@ -1,4 +1,5 @@
-// The two entries for a host in C: tables and types as bytes, words little-endian, and one number of 64 bits for each answer.
+// The two entries for a host: tables and types as bytes, words little-endian, and one number of 64 bits for each answer. `host_c` gives them
+// their names in C.
 #![tactic(auto)]
 
 ghost use Rattle.std.specs.Prelude.{◌/◌, min, ◌≡◌, length};
@@ -79,8 +80,7 @@ fn infer_words(words: &[u32], out: &mut [u8]) -> u64
 }
 
 // The inference of a table: its code with its place, and on code 0 the type's words at the beginning of `out`. No other byte changes.
-#[unsafe(no_mangle)]
-pub extern "C" fn iltgovruz_infer(table: &[u8], out: &mut [u8]) -> u64
+pub fn iltgovruz_infer(table: &[u8], out: &mut [u8]) -> u64
     ensures { InferEntry table.now out.old out.new result }
 {
     let mut words = [0u32; 2048];
@@ -102,8 +102,7 @@ fn run_words(words: &[u32], fuel: u32) -> u64
 }
 
 // The run of a table: its code with its payload.
-#[unsafe(no_mangle)]
-pub extern "C" fn iltgovruz_run(table: &[u8], fuel: u32) -> u64
+pub fn iltgovruz_run(table: &[u8], fuel: u32) -> u64
     ensures { RunEntry table.now fuel result }
 {
     let mut words = [0u32; 2048];
