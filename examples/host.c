@@ -1,6 +1,6 @@
 /* Infers and runs three formulas: one that has a type, one that has none, and one whose table is refused. In the repository:
 
-       rt staticlib host && gcc -O2 examples/host.c target/staticlib/libhost.a -o host && ./host
+       tools/build host && gcc -O2 examples/host.c target/staticlib/libhost.a -o host && ./host
 
    and where the machine is no x86-64, x86_64-linux-gnu-gcc -O2 -static for gcc -O2, and qemu-x86_64 ./host for ./host. */
 #include <inttypes.h>

@@ -113,7 +113,7 @@ assert parts_in("| `a::b` | x |\n### Parts\n| `c::d` | x |\n## More\n| `e::f` | 
 
 def is_called_elsewhere(crate, function):
     others = [path for path in glob.glob("crates/*/src/**/*.rt", recursive=True) if path.split(os.sep)[1] != crate]
-    return any(re.search(r"\b%s::%s\b" % (crate, function), bare(open(path, encoding="utf-8").read())) for path in others)
+    return any(re.search(r"\b%s::(?:\{[^}]*)?\b%s\b" % (crate, function), bare(open(path, encoding="utf-8").read())) for path in others)
 
 
 def faults_of(path, function, kinds, row, is_part):
@@ -150,7 +150,7 @@ def main():
             public.add(name)
             faults += faults_of(path, function, kinds, rows.pop(name, ""), name in parts)
     faults += named_in_vain(public)
-    for path in sorted(glob.glob("crates/**/*.antt", recursive=True)):
+    for path in sorted(glob.glob("crates/*/specs/*.antt") + glob.glob("crates/*/proofs/**/*.antt", recursive=True)):
         if re.search(r"(?m)^axiom |Prim\.Axiom", open(path, encoding="utf-8").read()):
             faults.append("%s has an axiom" % path)
     if faults or not calls:

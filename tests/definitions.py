@@ -1,4 +1,4 @@
-"""What the files under specs/ and src/ declare, and which own declarations a declaration mentions.
+"""What the files under specs/, proofs/ and src/ declare, and which own declarations a declaration mentions.
 
 A definition is what is declared with `data`, `record`, `abbrev` or `unfoldable`; any other name with a type is a theorem. Who believes a
 definition believes its whole text; who believes a theorem believes what it states, under the parameters of the modules around it."""
@@ -10,7 +10,7 @@ DEFINES = {"data", "record", "abbrev", "unfoldable"}
 HEAD = re.compile(r"(?:(?P<kind>data|record|abbrev|unfoldable) )?(?:pub )?(?:(?P<late>data|record) )?(?P<name>\S+)(?= |$)")
 LINE = re.compile(r"(?P<indent> *)(?P<rest>.*)")
 WORD = re.compile(r"[^\s(){}\[\],;⌜⌝]+")
-TAKES = re.compile(r"(?m)^(?:ghost )?use Rattle·(\w+?)(?:·specs)?\.specs(?:\.specs)?\.(?!declared\b)(\w+)(?:\.\{([^}]*)\}| as (\w+))")
+TAKES = re.compile(r"(?m)^(?:ghost )?use Rattle\.(\w+)\.(specs|proofs)\.(?!declared\b)(\w+)(?:\.\{([^}]*)\}| as (\w+))")
 
 
 class Declaration:
@@ -76,8 +76,8 @@ def declarations(path, lines, around=()):
 def imports(text):
     """The names that a file takes from other own files, as (path, name), and its short names for whole files."""
     names, files = {}, {}
-    for crate, file, listed, alias in TAKES.findall(text):
-        path = "crates/%s/specs/%s.antt" % (crate, file)
+    for crate, folder, file, listed, alias in TAKES.findall(text):
+        path = "crates/%s/%s/%s.antt" % (crate, folder, file)
         if alias:
             files[alias] = path
         for words in filter(None, map(str.split, listed.split(","))):
@@ -94,10 +94,11 @@ class File:
 
 
 class Specs:
-    """All files under crates/*/specs, and what each name in them stands for."""
+    """All files of crates/*/specs and of theorems in crates/*/proofs, and what each name in them stands for."""
 
     def __init__(self):
-        self.files = {path: File(path) for path in sorted(glob.glob("crates/*/specs/*.antt")) if os.path.basename(path) != "Lib.antt"}
+        paths = glob.glob("crates/*/specs/*.antt") + glob.glob("crates/*/proofs/*.antt")
+        self.files = {path: File(path) for path in sorted(paths) if os.path.basename(path) != "Lib.antt"}
         self.of = {}
         for file in self.files.values():
             for declaration in file.declared:
@@ -105,18 +106,18 @@ class Specs:
                     self.of.setdefault((file.path, name), declaration)
 
     def scope(self, path, names, files):
-        """What names stand for in a file: its own and those it takes; of `_+_` also the part `+`."""
+        """What names stand for in a file: its own and those it takes; of `◌+◌` also the part `+`."""
         pairs = {name: declared for name, declared in names.items()}
         pairs.update({name: (path, name) for where, name in self.of if where == path})
         pairs.update({"%s.%s" % (alias, name): (where, name) for alias, file in files.items() for where, name in self.of if where == file})
         for name, declared in list(pairs.items()):
-            pairs.update({part: declared for part in name.split("_") if part and "_" in name})
+            pairs.update({part: declared for part in name.split("◌") if part and "◌" in name})
         return {name: self.of[declared] for name, declared in pairs.items() if declared in self.of}
 
     def mentioned(self, text, scope):
         """The own declarations that a text mentions; not those whose name it binds itself."""
         bound = bound_in(text, scope)
-        words = [word for word in WORD.findall(text) if not word.startswith(".")]
+        words = [word if word in scope else word.split(".")[0] for word in WORD.findall(text)]
         return [scope[word] for word in words if word in scope and word not in bound]
 
     def mentioned_by(self, declaration, whole):

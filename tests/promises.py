@@ -39,7 +39,7 @@ def cells_of(page):
 # ---- What the page cites
 
 def is_declared(name, text):
-    declared = r"(?m)^\s*(?:(?:unfoldable|abbrev|pub|pub\(crate\)|extern \"C\") )*(?:data |record |fn )?%s(?=[ (:])" % re.escape(name)
+    declared = r"(?m)^\s*(?:(?:unfoldable|abbrev|pub|pub\(crate\)|extern \"C\") )*(?:data |record |fn )?%s(?=[ (:<])" % re.escape(name)
     return re.search(declared, text)
 
 
@@ -58,7 +58,7 @@ def missing_edits(page):
     """How many edits are cited, and which are not there or in no row."""
     edits = {os.path.basename(path)[:-len(".edit")] for path in glob.glob("crates/*/must-fail/*.edit")}
     last = [row.rstrip("| ").split("|")[-1] for row in page.split("\n") if row.startswith("|")]
-    words = {word for cell in last for word in re.findall(r"`([a-z0-9]+(?:_[a-z0-9]+)+)`", cell)}
+    words = {word for cell in last for word in re.findall(r"`([a-z0-9]+(?:_[a-z0-9]+)+)`", CITATION.sub("", cell))}
     return len(words), (["no edit %s" % word for word in sorted(words - edits)] +
                         ["the edit %s is in no row" % edit for edit in sorted(edits - words)])
 

@@ -1,13 +1,13 @@
 #!/usr/bin/env python3
 """Prints how many lines each crate has, as a table: definitions (the files of docs/PROMISES.md's first table), theorems (the other files
-of specs/), code with its contracts, proofs of the code, and must-fail edits. Lines are counted that are neither empty nor a comment."""
+of specs/ and those right in proofs/), code with its contracts, proofs of the code, and must-fail edits. Lines are counted that are neither empty nor a comment."""
 import glob
 import os
 import re
 
 os.chdir(os.path.join(os.path.dirname(os.path.abspath(__file__)), ".."))
 believed = set(re.findall(r"(?m)^\| `(crates/[^`]+)` \|", open("docs/PROMISES.md", encoding="utf-8").read()))
-crates = re.findall(r"(?m)^(\w+):", open("crates.txt", encoding="utf-8").read())
+crates = re.findall(r"(?m)^(\w+)(?: staticlib)?:", open("crates.txt", encoding="utf-8").read())
 
 
 def lines(paths):
@@ -20,8 +20,8 @@ def files(crate, folder, suffix):
 
 
 def row(crate):
-    specs = files(crate, "specs", "antt")
-    counts = [specs & believed, specs - believed, files(crate, "src", "rt"), files(crate, "proofs", "antt")]
+    theory = files(crate, "specs", "antt") | set(glob.glob("crates/%s/proofs/*.antt" % crate))
+    counts = [theory & believed, theory - believed, files(crate, "src", "rt"), files(crate, "proofs", "antt") - theory]
     return [lines(paths) for paths in counts] + [len(files(crate, "must-fail", "edit"))]
 
 
