@@ -33,12 +33,12 @@ returns-then-times-gt1 c =
     let p = c.loop-p.p in
     let next = times_next nd k p in
     let grown = times_grow nd k (p + 1) k (omega arith) in
-    let (past-root, searching) = c.nodes.invariant in
-    rw (search_finds searching c.if-n-k.false (misplaced_if nd k past-root (omega arith))) refl
+    let (past_root, searching) = c.nodes.invariant in
+    rw (search_finds searching c.if-n-k.false (misplaced_if nd k past_root (omega arith))) refl
 
 pub returns-then-times-eq0 : goal.returns-then-times-eq0
 returns-then-times-eq0 c =
     let all : c.loop-p.p ≡ c.nodes.k = omega arith in
     let counted = rw all at c.loop-p.invariant.1 in
-    let (past-root, searching) = c.nodes.invariant in
-    rw (search_finds searching c.if-n-k.false (misplaced_if _ _ past-root (omega arith))) refl
+    let (past_root, searching) = c.nodes.invariant in
+    rw (search_finds searching c.if-n-k.false (misplaced_if _ _ past_root (omega arith))) refl
