@@ -1,9 +1,6 @@
--- The bench formulas P1 to P12 as one table with a single claim. `Promises` is the page to start from.
-pub mod Promises
--- Definitions.
+-- The bench formulas P1 to P12 as one table. The single claim about it stands in `proofs/`, where `Promises` is the page to start from.
 pub mod Bench
 -- The table.
 pub mod Formulas
--- From the definitions to the calls.
+-- What the definitions compute for it.
 pub mod Computed
-pub mod BenchLaws

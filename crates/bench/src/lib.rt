@@ -1,2 +1,2 @@
-// The bench formulas of the rules, as a theory: definitions and theorems stand in specs/. There is no code here.
+// The bench formulas of the rules, as a theory: definitions stand in specs/, theorems in proofs/. There is no code here.
 #![tactic(auto)]

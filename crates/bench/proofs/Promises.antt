@@ -2,7 +2,7 @@
 use Rattle.std.specs.Prelude.{◌≡◌, refl, map}
 use Rattle.bench.specs.Bench.{Holds, Each}
 use Rattle.bench.specs.Computed.{computed}
-use Rattle.bench.specs.BenchLaws as BenchLaws
+use Rattle.bench.proofs.BenchLaws as BenchLaws
 use Rattle.bench.specs.Formulas.{formulas}
 
 -- The definitions compute what is stated.
