@@ -150,7 +150,7 @@ def main():
             public.add(name)
             faults += faults_of(path, function, kinds, rows.pop(name, ""), name in parts)
     faults += named_in_vain(public)
-    for path in sorted(glob.glob("crates/*/specs/*.antt") + glob.glob("crates/*/proofs/**/*.antt", recursive=True)):
+    for path in sorted(glob.glob("crates/*/specs/**/*.antt", recursive=True) + glob.glob("crates/*/proofs/**/*.antt", recursive=True)):
         if re.search(r"(?m)^axiom |Prim\.Axiom", open(path, encoding="utf-8").read()):
             faults.append("%s has an axiom" % path)
     if faults or not calls:

@@ -114,10 +114,17 @@ class Specs:
             pairs.update({part: declared for part in name.split("◌") if part and "◌" in name})
         return {name: self.of[declared] for name, declared in pairs.items() if declared in self.of}
 
+    @staticmethod
+    def without_fields(word, scope):
+        """The longest beginning of a path that is a name in scope, or else the name before its first step."""
+        steps = word.split(".")
+        begun = (".".join(steps[:end]) for end in range(len(steps), 0, -1))
+        return next((name for name in begun if name in scope), steps[0])
+
     def mentioned(self, text, scope):
         """The own declarations that a text mentions; not those whose name it binds itself."""
         bound = bound_in(text, scope)
-        words = [word if word in scope else word.split(".")[0] for word in WORD.findall(text)]
+        words = [self.without_fields(word, scope) for word in WORD.findall(text)]
         return [scope[word] for word in words if word in scope and word not in bound]
 
     def mentioned_by(self, declaration, whole):
