@@ -42,8 +42,8 @@
 extern "C" {
 #endif
 
-/* More than any call uses as this toolchain compiles it, which no proof covers. Measured: iltgovruz_infer 100 KB for the deepest type that
-   we know, of 170 nested fun x -> x (..); iltgovruz_run 41 KB. */
+/* More than any call uses as this toolchain compiles it, which no proof covers. Measured: iltgovruz_infer 78 KB for the deepest type that
+   we know, of 171 nested fun x -> x (..); iltgovruz_run 44 KB. */
 #define ILTGOVRUZ_STACK (128 * 1024)
 
 /* Both calls: the table is refused. The first that applies, in this order. */
