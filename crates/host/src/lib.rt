@@ -8,7 +8,7 @@ ghost use Rattle.host.specs.Rooms.{wrong_length, OutRoom};
 ghost use Rattle.host.specs.TableWords.{TableRead};
 ghost use Rattle.host.specs.TypeBytes.{TypeRoom, Told};
 
-use inference::Inferred;
+use inference::Untyped;
 
 // A code in the low 8 bits, a place or payload in the high 32.
 fn pack(code: u32, payload: u32) -> u64
@@ -39,16 +39,16 @@ fn read_table(table: &[u8], words: &mut [u32]) -> usize
 // ---- The inference entry
 
 // The number of an inference, and the bytes of its type.
-fn tell(inferred: Inferred, types: &[u32], out: &mut [u8]) -> u64
+fn tell(inferred: Result<usize, Untyped>, types: &[u32], out: &mut [u8]) -> u64
     requires { TypeRoom inferred types.now out.old }
     ensures { Told inferred types.now out.old out.new result }
 {
     match inferred {
-        Inferred::Typed(count) => {
+        Ok(count) => {
             lent::write_bytes(&types[..count], out);
             pack(0, count as u32)
         }
-        Inferred::Refused { code, place } => pack(code, place),
+        Err(untyped) => pack(untyped.code(), untyped.place()),
     }
 }
 

@@ -1,7 +1,5 @@
 // The three calls, each with its line.
 use crate::stores::{fill, sum};
-use acceptance::Verdict;
-use inference::Inferred;
 
 // A call with what it is lent beside the table: fuel, and lengths of slices.
 #[derive(Clone, Copy)]
@@ -21,8 +19,8 @@ pub(crate) enum Call {
 // Code and place, where the place of acceptance is the node count.
 fn check<P: Print>(to: &P, words: &[u32]) {
     let (code, place) = match acceptance::check(words) {
-        Verdict::Accepted(n) => (0, n),
-        Verdict::Refused { code, place } => (code, place),
+        Ok(n) => (0, n),
+        Err(refusal) => (refusal.code(), refusal.place()),
     };
     let _ = println!(to; "{code} {place}");
 }
@@ -52,8 +50,8 @@ fn infer<P: Print>(to: &P, words: &[u32], work: usize, out: usize) -> Option<()>
     fill(work, 1);
     fill(out, 2);
     let (code, place) = match inference::infer(words, work, out) {
-        Inferred::Typed(count) => (0, count as u64),
-        Inferred::Refused { code, place } => (code, u64::from(place)),
+        Ok(count) => (0, count as u64),
+        Err(untyped) => (untyped.code(), u64::from(untyped.place())),
     };
     let (work, out) = (sum(work), sum(out));
     let _ = println!(to; "{code} {place} {work} {out}");
