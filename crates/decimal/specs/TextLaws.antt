@@ -29,14 +29,9 @@ puts_more enough p = record { same = p.same; written = within_more enough p.writ
 pub puts_within_then : {most₁ most₂ : ℕ} {t t₁ t₂ : Text} {new more : List ℕ} → PutsWithin most₁ t new t₁ → PutsWithin most₂ t₁ more t₂ → PutsWithin (most₁ + most₂) t (new ++ more) t₂
 puts_within_then p q = record { same = q.same ∙ p.same; written = within_then p.written q.written }
 
--- ---- The first bytes of some
-
-module _ (bytes : List ℕ) {t t' : Text} {i : ℕ} (so_far : Puts t (take i bytes) t') where
-  pub bytes_more : {t'' : Text} → i < length bytes → Puts t' (get_or bytes i 0 ∷ []) t'' → Puts t (take (i + 1) bytes) t''
-  bytes_more below one = rw (add-one, take-suc bytes i 0 below) (puts_then so_far one)
-
-  pub bytes_all : length bytes ≤ i → Puts t bytes t'
-  bytes_all over = rw (take_all i bytes over) at so_far
+-- One more of some bytes.
+pub bytes_more : (bytes : List ℕ) {t t₁ t₂ : Text} {i : ℕ} → Puts t (take i bytes) t₁ → i < length bytes → Puts t₁ (get_or bytes i 0 ∷ []) t₂ → Puts t (take (i + 1) bytes) t₂
+bytes_more bytes {i = i} so_far below one = rw (add-one, take-suc bytes i 0 below) (puts_then so_far one)
 
 -- ---- An integer
 

@@ -1,10 +1,11 @@
 -- Each word of bytes, and each byte of words, by its index.
-use Rattle.std.specs.Prelude.{ℕ, zero, suc, ◌+◌, ◌*◌, ◌/◌, ◌%◌, ◌≤◌, ◌<◌, min, ◌≡◌, refl, List, [], ◌∷◌, length, get_or, set}
+use Rattle.std.specs.Prelude.{ℕ, zero, suc, ◌+◌, ◌*◌, ◌/◌, ◌%◌, ◌≤◌, ◌<◌, min, ◌≡◌, refl, List, [], ◌∷◌, length, take, get_or, set}
 use Rattle.std.specs.Int.{w32, from_le_bytes, to_le_bytes}
 use Rattle.std.specs.Simd.{first_chunks}
 use Rattle.std.proofs.Common.{sym, ◌∙◌, arith}
 use Rattle.lent.specs.Bytes.{from_bytes, to_bytes, overwrite}
-use Rattle.lent.specs.Writing.{Writing, overwrites, overwritten}
+use Rattle.lent.specs.Written.{Written}
+use Rattle.lent.specs.Writing.{overwrites, overwritten}
 
 -- ---- Bytes are read
 
@@ -29,15 +30,15 @@ quad_is (a ∷ b ∷ []) (suc k) i h fits = absurd (omega arith)
 quad_is (a ∷ []) (suc k) i h fits = absurd (omega arith)
 quad_is [] (suc k) i h fits = absurd (omega arith)
 
-module _ (bytes : List ℕ) {words₀ words : List ℕ} {i : ℕ} (read : Writing (from_bytes bytes) words₀ 0 words i i) where
+module _ (bytes : List ℕ) {words₀ words : List ℕ} {i : ℕ} (read : Written words₀ 0 (take i (from_bytes bytes)) words i) where
   pub word_read : {quads : List (List ℕ)} {w : ℕ} → quads ≡ first_chunks 4 (length bytes / 4) bytes → i < min (length bytes / 4) (length words₀) → w ≡ from_le_bytes w32 (get_or quads i []) →
-      Writing (from_bytes bytes) words₀ 0 (set words i w) (i + 1) (i + 1)
+      Written words₀ 0 (take (i + 1) (from_bytes bytes)) (set words i w) (i + 1)
   word_read quads more is =
       let inside : i < length (from_bytes bytes) = omega (arith, length-from_bytes bytes) in
-      overwrites read inside (omega arith) (is ∙ rw quads (quad_is bytes (length bytes / 4) i (omega arith) (omega (arith, length-from_bytes bytes))))
+      overwrites (from_bytes bytes) read inside (omega arith) (is ∙ rw quads (quad_is bytes (length bytes / 4) i (omega arith) (omega (arith, length-from_bytes bytes))))
 
   pub words_read : min (length bytes / 4) (length words₀) ≤ i → words ≡ overwrite (from_bytes bytes) words₀
-  words_read all = overwritten read (omega (arith, length-from_bytes bytes))
+  words_read all = overwritten (from_bytes bytes) read (omega (arith, length-from_bytes bytes))
 
 -- ---- Bytes are written
 
@@ -60,12 +61,12 @@ byte_is (w ∷ words) (suc (suc (suc (suc i)))) h =
     let again : suc (suc (suc (suc i))) % 4 ≡ i % 4 = omega arith in
     rw (next, again) (byte_is words i (omega arith))
 
-module _ (words : List ℕ) {bytes₀ bytes : List ℕ} {i : ℕ} (written : Writing (to_bytes words) bytes₀ 0 bytes i i) where
+module _ (words : List ℕ) {bytes₀ bytes : List ℕ} {i : ℕ} (written : Written bytes₀ 0 (take i (to_bytes words)) bytes i) where
   pub byte_written : {four : List ℕ} → four ≡ to_le_bytes w32 (get_or words (i / 4) 0) → i < min (length bytes₀) (4 * length words) →
-      Writing (to_bytes words) bytes₀ 0 (set bytes i (get_or four (i % 4) 0)) (i + 1) (i + 1)
+      Written bytes₀ 0 (take (i + 1) (to_bytes words)) (set bytes i (get_or four (i % 4) 0)) (i + 1)
   byte_written is more =
       let inside : i < length (to_bytes words) = omega (arith, length-to_bytes words) in
-      overwrites written inside (omega arith) (rw is (sym (byte_is words i inside)))
+      overwrites (to_bytes words) written inside (omega arith) (rw is (sym (byte_is words i inside)))
 
   pub bytes_written : min (length bytes₀) (4 * length words) ≤ i → bytes ≡ overwrite (to_bytes words) bytes₀
-  bytes_written all = overwritten written (omega (arith, length-to_bytes words))
+  bytes_written all = overwritten (to_bytes words) written (omega (arith, length-to_bytes words))
