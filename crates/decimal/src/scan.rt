@@ -17,7 +17,7 @@ fn with_digit(value: u32, b: u8) -> Option<u32>
     ensures { result ≡ cond (is_digit b && ltb (with_digit value b) word_limit) (Some (with_digit value b)) None }
 {
     match b {
-        b'0'..=b'9' => value.checked_mul(10)?.checked_add(u32::from(b - b'0')),
+        b'0'..=b'9' => u32::try_from(u64::from(value) * 10 + u64::from(b - b'0')).ok(),
         _ => None,
     }
 }
