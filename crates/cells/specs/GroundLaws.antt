@@ -94,11 +94,11 @@ module _ {mem : List ℕ} {i : ℕ} (at : MarkingAt mem i) where
   visit_leaning leans = progress_none at.marking (λ j e waits. rw e leans)
 
 -- Two visits more, the first of cell i.
-pub pass_on : {E : ℕ → Type 0} {a b c d : List ℕ} {i new up down : ℕ} → Progress (λ j. j < i) a b new → Progress (λ j. j ≡ i) b c up → Progress E c d down → Progress (λ j. j < i + 1) a d (new + up + down)
-pass_on {E} {i} p q r = progress_within (λ j h. inl (here j h (ℕ_discrete j i))) (progress_then (progress_then p q) r)
+pub pass_on : {E : ℕ → Type 0} {a b c d : List ℕ} {i new up down : ℕ} → Progress (λ j. j < i) a b new → Progress (λ j. j ≡ i) b c up → Progress E c d down → Progress (λ j. j < i + 1) a d (new + (up + down))
+pass_on {E} {i} p q r = progress_within (λ j h. here j h (ℕ_discrete j i)) (progress_then p (progress_then q r))
   where
-    here : (j : ℕ) → j < i + 1 → Dec (j ≡ i) → (j < i) ⊎ (j ≡ i)
-    here j h (yes e) = inr e
+    here : (j : ℕ) → j < i + 1 → Dec (j ≡ i) → (j < i) ⊎ ((j ≡ i) ⊎ E j)
+    here j h (yes e) = inr (inl e)
     here j h (no n) = inl (omega arith)
 
 -- One mark.

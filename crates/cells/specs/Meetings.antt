@@ -1,5 +1,5 @@
 -- Two cells meet: what is written, and what it makes of the satisfying valuations.
-use Rattle.std.specs.Prelude.{ℕ, suc, ◌+◌, ◌≤◌, ◌≡◌, refl, ◌≢◌, ◌↔◌, List, length}
+use Rattle.std.specs.Prelude.{ℕ, suc, ◌+◌, ◌≤◌, ◌≡◌, refl, ◌≢◌, ◌↔◌, List, length, Option, Some, None, Result, Ok, Err}
 use Rattle.std.proofs.Common.{sym, ◌∙◌, subst, arith, ne_eqb}
 use Rattle.std.proofs.Math.Path.{ap}
 use Rattle.std.proofs.Math.Dec.{eqb}
@@ -7,14 +7,14 @@ use Rattle.language.specs.Ty.{Subst}
 use Rattle.language.specs.Once.{once}
 use Rattle.language.proofs.Count.{count_changed}
 use Rattle.cells.specs.Layout.{Allowed, cell_at, pair_at, store_of, cells_in, Sound}
-use Rattle.cells.specs.Solving.{IsRoot, Rooted, is_link_in, links_in, TwoRoots, Joined, EncounterIs, Meeting}
+use Rattle.cells.specs.Solving.{IsRoot, Rooted, is_link_in, links_in, TwoRoots, Joined, MetIs, Meeting}
 use Rattle.cells.specs.Cells.{Sat}
 use Rattle.cells.specs.CellSteps.{free_written, equal_linked, copied_down, arrow_linked, tag, clash, Put}
 use Rattle.cells.specs.StoreLaws.{store_is, store_put, sound_put, tag_of, base_says, above_one, says_free, says_arrow}
 use Rattle.cells.specs.Puts.{CellPut}
 use Rattle.cells.specs.declared.TypeCell.{TypeCell}
-use Rattle.cells.specs.declared.solve.Encounter.{Encounter}
-use Rattle.cells.specs.declared.solve.Encounter.TheVariants.{Clash, Done, Parts}
+use Rattle.cells.specs.declared.Clash.{Clash}
+use Rattle.cells.specs.declared.solve.Parts.{Parts}
 
 -- A cell that is not written stays a root.
 still_root : {before after : List ℕ} {r : ℕ} → IsRoot before r → length after ≡ length before → cell_at after r ≡ cell_at before r → IsRoot after r
@@ -64,7 +64,7 @@ module _ {before : List ℕ} {i j : ℕ} {low high : TypeCell} (two : TwoRoots b
   high_no_link : high.tag ≢ 1
   high_no_link = rw two.high_is two.high_root.no_link
 
-  pub copied_meeting : {between after : List ℕ} → low.tag ≡ 0 → CellPut before between i high → CellPut between after j (link_to i) → Meeting before after i j Done
+  pub copied_meeting : {between after : List ℕ} → low.tag ≡ 0 → CellPut before between i high → CellPut between after j (link_to i) → Meeting before after i j (Ok None)
   copied_meeting {between} {after} e p q =
       record {
         same_length = q.same_length ∙ p.same_length;
@@ -92,7 +92,7 @@ module _ {before : List ℕ} {i j : ℕ} {low high : TypeCell} (two : TwoRoots b
     counted = link_counted q two.high_root refl
 
     -- Sat after exactly if Sat before and the two types are equal.
-    linked_meeting : ((ρ : Subst) → Sat ρ (store_of after) ↔ (Sat ρ (store_of before) × (ρ j ≡ ρ i))) → Meeting before after i j Done
+    linked_meeting : ((ρ : Subst) → Sat ρ (store_of after) ↔ (Sat ρ (store_of before) × (ρ j ≡ ρ i))) → Meeting before after i j (Ok None)
     linked_meeting step =
         let more = counted in
         record {
@@ -100,10 +100,10 @@ module _ {before : List ℕ} {i j : ℕ} {low high : TypeCell} (two : TwoRoots b
           says = (record { sound = linked_sound two.sound q; keeps = λ ρ. (λ (h, e). ((step ρ).1 (h, sym e), tt), λ (h, u). let (h', e) = (step ρ).0 h in (h', sym e)); pairs = q.pairs }, omega arith);
         }
 
-    pub free_meeting : high.tag ≡ 0 → Meeting before after i j Done
+    pub free_meeting : high.tag ≡ 0 → Meeting before after i j (Ok None)
     free_meeting e = linked_meeting (λ ρ. free_written (says_free before j two.high_is e) (store_put q))
 
-    pub base_meeting : low.tag ≢ 0 → low.tag ≡ high.tag → low.tag ≢ 5 → Meeting before after i j Done
+    pub base_meeting : low.tag ≢ 0 → low.tag ≡ high.tag → low.tag ≢ 5 → Meeting before after i j (Ok None)
     base_meeting n e m = linked_meeting (λ ρ. equal_linked same (omega (arith, two.less)) (store_put q))
       where
         same : store_of before j ≡ store_of before i
@@ -111,7 +111,7 @@ module _ {before : List ℕ} {i j : ℕ} {low high : TypeCell} (two : TwoRoots b
             let known = low_allowed.tag_known in
             store_is before j two.high_is ∙ sym (base_says low high (above_one n low_no_link) (omega arith) e) ∙ sym (store_is before i two.low_is)
 
-    pub arrow_meeting : low.tag ≡ high.tag → low.tag ≡ 5 → Meeting before after i j (Parts low.a high.a low.b high.b)
+    pub arrow_meeting : low.tag ≡ high.tag → low.tag ≡ 5 → Meeting before after i j (Ok (Some (record { left = record { left = low.a; right = high.a }; right = record { left = low.b; right = high.b } })))
     arrow_meeting same e =
         let (low_a, low_b) = low_allowed.parts_inside e in
         let (high_a, high_b) = high_allowed.parts_inside (sym same ∙ e) in
@@ -127,7 +127,7 @@ module _ {before : List ℕ} {i j : ℕ} {low high : TypeCell} (two : TwoRoots b
               λ (h, (l, r)). let (h', p) = from (h, sym l, sym r) in (h', sym p),
             )
 
-  pub clash_meeting : low.tag ≢ 0 → high.tag ≢ 0 → low.tag ≢ high.tag → Meeting before before i j Clash
+  pub clash_meeting : {e : Clash} → low.tag ≢ 0 → high.tag ≢ 0 → low.tag ≢ high.tag → Meeting before before i j (Err e)
   clash_meeting n m d =
       let low_says : tag (store_of before i) ≡ low.tag = ap tag (store_is before i two.low_is) ∙ tag_of low low_allowed.tag_known in
       let high_says : tag (store_of before j) ≡ high.tag = ap tag (store_is before j two.high_is) ∙ tag_of high high_allowed.tag_known in
@@ -138,23 +138,23 @@ module _ {before : List ℕ} {i j : ℕ} {low high : TypeCell} (two : TwoRoots b
 
 -- ---- Cells meet by way of their roots
 
-pub meeting_is : {before after : List ℕ} {i j : ℕ} {met met' : Encounter} → Meeting before after i j met → met ≡ met' → Meeting before after i j met'
+pub meeting_is : {before after : List ℕ} {i j : ℕ} {met met' : Result (Option Parts) Clash} → Meeting before after i j met → met ≡ met' → Meeting before after i j met'
 meeting_is {before} {after} {i} {j} m e = subst (Meeting before after i j) e m
 
 -- Who is named first plays no part.
-pub meeting_turned : {before after : List ℕ} {i j : ℕ} {met : Encounter} → Meeting before after j i met → Meeting before after i j met
+pub meeting_turned : {before after : List ℕ} {i j : ℕ} {met : Result (Option Parts) Clash} → Meeting before after j i met → Meeting before after i j met
 meeting_turned {before} {after} {i} {j} {met} m = record { same_length = m.same_length; says = go met m.says }
   where
     turned : {rest : Subst → Type 0} → Joined before after j i rest → Joined before after i j rest
     turned w = record { sound = w.sound; keeps = λ ρ. (λ (h, e). (w.keeps ρ).0 (h, sym e), λ h. let (h', e) = (w.keeps ρ).1 h in (h', sym e)); pairs = w.pairs }
 
-    go : (met : Encounter) → EncounterIs before after j i met → EncounterIs before after i j met
-    go Clash none = λ ρ h e. none ρ h (sym e)
-    go Done (w, more) = (turned w, more)
-    go (Parts l l' r r') (w, more, inside) = (turned w, more, inside)
+    go : (met : Result (Option Parts) Clash) → MetIs before after j i met → MetIs before after i j met
+    go (Err _) none = λ ρ h e. none ρ h (sym e)
+    go (Ok None) (w, more) = (turned w, more)
+    go (Ok (Some p)) (w, more, inside) = (turned w, more, inside)
 
 -- A root meets itself.
-pub self_meeting : {mem : List ℕ} {i j : ℕ} → Sound mem → i ≡ j → Meeting mem mem i j Done
+pub self_meeting : {mem : List ℕ} {i j : ℕ} → Sound mem → i ≡ j → Meeting mem mem i j (Ok None)
 self_meeting sound e = record {
   same_length = refl;
   says = (record { sound = sound; keeps = λ ρ. (λ (h, q). (h, tt), λ (h, u). (h, ap ρ e)); pairs = λ k. refl }, omega arith);
@@ -183,7 +183,7 @@ module _ {first second third : List ℕ} {i j p q : ℕ} (to_p : Rooted first se
   pub roots_ready : Sound third × IsRoot third p × IsRoot third q
   roots_ready = (to_q.way.sound, still_root to_p.root to_q.way.same_length (to_q.way.roots p to_p.root.no_link), to_q.root)
 
-  pub roots_meet : {after : List ℕ} {met : Encounter} → Meeting third after p q met → Meeting first after i j met
+  pub roots_meet : {after : List ℕ} {met : Result (Option Parts) Clash} → Meeting third after p q met → Meeting first after i j met
   roots_meet {after} {met} m = record { same_length = m.same_length ∙ to_q.way.same_length ∙ to_p.way.same_length; says = go met m.says }
     where
       further : {rest : Subst → Type 0} → Joined third after p q rest → Joined first after i j rest
@@ -194,7 +194,7 @@ module _ {first second third : List ℕ} {i j p q : ℕ} (to_p : Rooted first se
             pairs = λ k. w.pairs k ∙ pairs_as_before k;
           }
 
-      go : (met : Encounter) → EncounterIs third after p q met → EncounterIs first after i j met
-      go Clash none = λ ρ h e. let (h', e') = (roots_equal ρ).0 (h, e) in none ρ h' e'
-      go Done (w, more) = (further w, rw (← links_as_before) more)
-      go (Parts l l' r r') (w, more, inside) = (further w, rw (← links_as_before) more, inside)
+      go : (met : Result (Option Parts) Clash) → MetIs third after p q met → MetIs first after i j met
+      go (Err _) none = λ ρ h e. let (h', e') = (roots_equal ρ).0 (h, e) in none ρ h' e'
+      go (Ok None) (w, more) = (further w, rw (← links_as_before) more)
+      go (Ok (Some p)) (w, more, inside) = (further w, rw (← links_as_before) more, inside)

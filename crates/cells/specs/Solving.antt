@@ -1,13 +1,13 @@
 -- The solver: each step keeps the satisfying valuations, and together they demand one equation more of them.
-use Rattle.std.specs.Prelude.{ℕ, suc, ◌≤◌, ◌<◌, ◌≡◌, Bool, ◌≢◌, ◌↔◌, List, eqb, length}
+use Rattle.std.specs.Prelude.{ℕ, suc, ◌≤◌, ◌<◌, ◌≡◌, Bool, ◌≢◌, ◌↔◌, List, eqb, length, Option, Some, None, Result, Ok, Err}
 use Rattle.language.specs.Ty.{Subst}
 use Rattle.language.proofs.Count.{count}
 use Rattle.cells.specs.Cells.{Sat}
 use Rattle.cells.specs.Interface.{Sayable}
 use Rattle.cells.specs.Layout.{cell_at, pair_at, store_of, cells_in, Sound}
 use Rattle.cells.specs.declared.TypeCell.{TypeCell}
-use Rattle.cells.specs.declared.solve.Encounter.{Encounter}
-use Rattle.cells.specs.declared.solve.Encounter.TheVariants.{Clash, Done, Parts}
+use Rattle.cells.specs.declared.Clash.{Clash}
+use Rattle.cells.specs.declared.solve.Parts.{Parts}
 
 -- ---- Roots
 
@@ -81,13 +81,14 @@ pub record Joined (before after : List ℕ) (i j : ℕ) (rest : Subst → Type 0
   pub keeps : (ρ : Subst) → (Sat ρ (store_of before) × (ρ i ≡ ρ j)) ↔ (Sat ρ (store_of after) × rest ρ)
   pub pairs : (k : ℕ) → pair_at after k ≡ pair_at before k
 
-abbrev pub EncounterIs : List ℕ → List ℕ → ℕ → ℕ → Encounter → Type 0
-EncounterIs before after i j Clash = (ρ : Subst) → Sat ρ (store_of before) → ¬ (ρ i ≡ ρ j)
-EncounterIs before after i j Done = Joined before after i j (λ ρ. Unit) × (links_in before ≤ links_in after)
-EncounterIs before after i j (Parts l l' r r') =
-    Joined before after i j (λ ρ. (ρ l ≡ ρ l') × (ρ r ≡ ρ r')) × (links_in after ≡ suc (links_in before)) ×
-    ((l < cells_in after) × (l' < cells_in after) × (r < cells_in after) × (r' < cells_in after))
+-- They never are equal, or they are now, or as soon as the parts of two arrows are.
+abbrev pub MetIs : List ℕ → List ℕ → ℕ → ℕ → Result (Option Parts) Clash → Type 0
+MetIs before after i j (Err _) = (ρ : Subst) → Sat ρ (store_of before) → ¬ (ρ i ≡ ρ j)
+MetIs before after i j (Ok None) = Joined before after i j (λ ρ. Unit) × (links_in before ≤ links_in after)
+MetIs before after i j (Ok (Some p)) =
+    Joined before after i j (λ ρ. (ρ p.left.left ≡ ρ p.left.right) × (ρ p.right.left ≡ ρ p.right.right)) × (links_in after ≡ suc (links_in before)) ×
+    ((p.left.left < cells_in after) × (p.left.right < cells_in after) × (p.right.left < cells_in after) × (p.right.right < cells_in after))
 
-pub record Meeting (before after : List ℕ) (i j : ℕ) (met : Encounter) : Type 0 where
+pub record Meeting (before after : List ℕ) (i j : ℕ) (met : Result (Option Parts) Clash) : Type 0 where
   pub same_length : length after ≡ length before
-  pub says : EncounterIs before after i j met
+  pub says : MetIs before after i j met

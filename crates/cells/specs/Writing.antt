@@ -1,5 +1,5 @@
 -- The written type of a cell: how long it is, and what is written where.
-use Rattle.std.specs.Prelude.{ℕ, suc, ◌+◌, ◌-◌, ◌≤◌, ◌<◌, ◌≡◌, Bool, not, cond, ◌≢◌, List, [], ◌∷◌, eqb, length}
+use Rattle.std.specs.Prelude.{ℕ, suc, ◌+◌, ◌-◌, ◌≤◌, ◌<◌, ◌≡◌, Bool, not, cond, ◌≢◌, List, [], ◌∷◌, eqb, length, Option, Some, None, IfSome}
 use Rattle.std.proofs.lemmas.List.Edits.{sets}
 use Rattle.language.specs.Ty.{Ty}
 use Rattle.language.specs.Unification.{size}
@@ -18,10 +18,15 @@ pub record Root (cells : List ℕ) (i r : ℕ) : Type 0 where
   pub no_link : (cell_at cells r).tag ≢ 1
   pub same : (τ : Ty) → Ev (store_of cells) i τ → Ev (store_of cells) r τ
 
--- What is left of the room after the words of cell i's type, 0 if it has as many or more.
-pub record Measured (cells : List ℕ) (i room left : ℕ) : Type 0 where
-  pub no_more : left ≤ room
-  pub takes : (τ : Ty) → Ev (store_of cells) i τ → left ≡ room - size τ
+-- So much is left of the room after so many words, or they have no room.
+abbrev pub Leaves : ℕ → ℕ → Option ℕ → Type 0
+Leaves room words (Some left) = words + left ≡ room
+Leaves room words None = room < words
+
+-- What is left of the room after the words of cell i's type, if it has no more. Even a cell without a type leaves no more than there was.
+pub record Measured (cells : List ℕ) (i room : ℕ) (left : Option ℕ) : Type 0 where
+  pub no_more : IfSome left (λ l. l ≤ room)
+  pub takes : (τ : Ty) → Ev (store_of cells) i τ → Leaves room (size τ) left
 
 -- ---- Numbering
 

@@ -1,6 +1,6 @@
 -- The words of a cell's type, written part by part.
 use Prim.Native.Nat.{ℕ, suc, ◌+◌, ◌-◌, ◌≤◌, ◌<◌}
-use Rattle.std.specs.Prelude.{◌≡◌, true, false, ◌≢◌, take, set}
+use Rattle.std.specs.Prelude.{◌≡◌, true, false, ◌≢◌, take, set, Some, None}
 use Rattle.std.proofs.Math.Path.{refl, ap}
 use Rattle.std.proofs.Common.{sym, ◌∙◌, subst, add-zero, zero-add, length-append, ne_eqb}
 use mathlib.Core.List.{List, [], ◌∷◌, ◌++◌, append-nil}
@@ -22,7 +22,6 @@ use Rattle.cells.specs.Writing.{Root, Measured, number_in, Numbers, has_number, 
 use Rattle.cells.specs.Spelling.{length-spell, size_positive, number_other, appearing_new, number_new, words_new, appearing_old, words_old, words_arrow}
 use Rattle.cells.specs.RootTypes.{parts, LeafType, is_variable, is_unit, is_bool, is_int, leaf_type}
 use Rattle.cells.specs.Puts.{PairPut}
-use Rattle.cells.specs.declared.Written.TheVariants.{Words, TooLong}
 use Rattle.cells.specs.declared.TypeCell.{TypeCell}
 use Rattle.cells.specs.declared.memory.Pair.{Pair}
 use Rattle.cells.specs.declared.write.Rest.{Rest}
@@ -235,13 +234,13 @@ module _ {cells : List ℕ} (unnumbered : Unnumbered cells) where
   unfolding number_in is_among
   none_seen = record { beside = unnumbered.none; as_many = refl }
 
-  pub all_written : (out : List ℕ) {i left count : ℕ} {cells' part : List ℕ} {rest : Rest} → left ≢ 0 → count + left ≡ length out + 1 →
-      Measured cells i (length out + 1) left → Wrote cells i (take count out) count 0 cells' part rest →
-      CellWritten cells i out (part ++ drop count out) (Words count)
+  pub all_written : (out : List ℕ) {i left count : ℕ} {cells' part : List ℕ} {rest : Rest} → count + left ≡ length out →
+      Measured cells i (length out) (Some left) → Wrote cells i (take count out) count 0 cells' part rest →
+      CellWritten cells i out (part ++ drop count out) (Some count)
   unfolding words_of
-  all_written out {i} {left} {count} {part = part} some split measured wrote = record { is = written }
+  all_written out {i} {left} {count} {part = part} split measured wrote = record { is = written }
     where
-      written : (τ : Ty) → Ev (store_of cells) i τ → TypeWritten (words_of τ) out (part ++ drop count out) (Words count)
+      written : (τ : Ty) → Ev (store_of cells) i τ → TypeWritten (words_of τ) out (part ++ drop count out) (Some count)
       written τ d =
           let taken = measured.takes τ d in
           let as_long : length (words_of τ) ≡ count = length-spell _ τ ∙ omega arith in
@@ -251,6 +250,6 @@ module _ {cells : List ℕ} (unnumbered : Unnumbered cells) where
           let all : part ≡ words_of τ = put ∙ rw start (all_put (take count out) (words_of τ) (omega arith)) in
           fits (omega arith) (rw as_long refl) (rw (all, as_long) refl)
 
-pub none_written : (out : List ℕ) {cells : List ℕ} {i left : ℕ} → left ≡ 0 → Measured cells i (length out + 1) left → CellWritten cells i out out TooLong
+pub none_written : (out : List ℕ) {cells : List ℕ} {i : ℕ} → Measured cells i (length out) None → CellWritten cells i out out None
 unfolding words_of
-none_written out none measured = record { is = λ τ d. over (rw length-spell (omega (arith, measured.takes τ d))) refl refl }
+none_written out measured = record { is = λ τ d. over (rw length-spell (omega (arith, measured.takes τ d))) refl refl }

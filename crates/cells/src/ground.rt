@@ -10,10 +10,8 @@ pub(crate) fn unmark(cells: &mut [u32], n: u32)
     requires { Sound cells.old × (length cells.old ≡ 5 * n) }
     ensures { UnmarkedBelow cells.old cells.new n }
 {
-    let mut i: u32 = 0;
-    while i < n {
+    for i in 0..n {
         put_pair(cells, i, Pair { left: 0, right: 0 });
-        i += 1;
     }
 }
 
@@ -64,12 +62,10 @@ fn pass(cells: &mut [u32], n: u32) -> u32
     ensures { Progress (λ j. j < n) cells.old cells.new result }
 {
     let mut new: u32 = 0;
-    let mut i: u32 = 0;
-    while i < n {
+    for i in 0..n {
         let up = visit(cells, i);
         let down = visit(cells, n - 1 - i);
-        new = new + up + down;
-        i += 1;
+        new += up + down;
     }
     new
 }

@@ -26,14 +26,9 @@ pub struct TypeCell {
     pub b: u32,
 }
 
-// What comes of a type that is to be written.
-#[derive(Clone, Copy)]
-pub enum Written {
-    // It has so many words, and they are written.
-    Words(usize),
-    // It has more words than the slice, and none is written.
-    TooLong,
-}
+// No valuation satisfies the cells and what was to be true besides.
+#[derive(Clone, Copy, Debug, PartialEq, Eq)]
+pub struct Clash;
 
 // All cells are new: 0 to 3 are bool, int, int → int and int → bool, and of the others nothing is known.
 pub fn start(cells: &mut [u32])
@@ -47,8 +42,8 @@ pub fn start(cells: &mut [u32])
     put(cells, 3, TypeCell { tag: 5, a: 1, b: 0 });
 }
 
-// What c says is true of the type of cell i, or false is answered. It is a base type or an arrow.
-pub fn say(cells: &mut [u32], i: u32, c: TypeCell) -> bool
+// What c says is true of the type of cell i, or clashes. It is a base type or an arrow.
+pub fn say(cells: &mut [u32], i: u32, c: TypeCell) -> Result<(), Clash>
     requires { Sound cells.old × (i < cells_in cells.old) × Sayable (cells_in cells.old) c }
     ensures { Outcome cells.old cells.new (λ ρ. Fits ρ i (cell_of c)) result }
 {
@@ -56,8 +51,8 @@ pub fn say(cells: &mut [u32], i: u32, c: TypeCell) -> bool
     say_root(cells, r, c)
 }
 
-// Cells i and j have the same type, or false is answered.
-pub fn join(cells: &mut [u32], i: u32, j: u32) -> bool
+// Cells i and j have the same type, or clash.
+pub fn join(cells: &mut [u32], i: u32, j: u32) -> Result<(), Clash>
     requires { Sound cells.old × (i < cells_in cells.old) × (j < cells_in cells.old) }
     ensures { Outcome cells.old cells.new (λ ρ. ρ i ≡ ρ j) result }
 {
@@ -74,17 +69,14 @@ pub fn grounded(cells: &mut [u32]) -> bool
     sweep(cells, n)
 }
 
-// The type of cell i at the beginning of `out`, if it fits. Its room is one word more than `out`, so that a type that fits leaves some.
-pub fn write_type(cells: &mut [u32], i: u32, out: &mut [u32]) -> Written
+// The type of cell i at the beginning of `out`, if it fits: so many words are written.
+pub fn write_type(cells: &mut [u32], i: u32, out: &mut [u32]) -> Option<usize>
     requires { Unnumbered cells.old × (i < cells_in cells.old) }
     ensures { CellWritten cells.old i out.old out.new result }
 {
-    let room = out.len() + 1;
-    let left = measure(cells, i, room);
-    if left == 0 {
-        return Written::TooLong;
-    }
+    let room = out.len();
+    let left = measure(cells, i, room)?;
     let count = room - left;
     write::write(cells, &mut out[..count], i, count, 0);
-    Written::Words(count)
+    Some(count)
 }

@@ -5,23 +5,14 @@ ghost use Rattle.cells.specs.Layout.{cell_of, cells_in, Sound};
 ghost use Rattle.cells.specs.Interface.{Outcome};
 ghost use Rattle.cells.specs.Solving.{IsRoot, Rooted, SayReady, AllEqual, PartsInside, PairsInside, TwoRoots, Meeting};
 
-use crate::TypeCell;
 use crate::memory::{Pair, get, get_pair, put, put_pair};
+use crate::{Clash, TypeCell};
 
-// What comes of two cells that are to be equal.
+// The parts of two arrows that meet, whose left ones and right ones are to be equal.
 #[derive(Drop)]
-pub(crate) enum Encounter {
-    // They never are.
-    Clash,
-    // They are now.
-    Done,
-    // They are, as soon as the parts of two arrows are: the left ones and the right ones.
-    Parts {
-        left: u32,
-        other_left: u32,
-        right: u32,
-        other_right: u32,
-    },
+pub(crate) struct Parts {
+    left: Pair,
+    right: Pair,
 }
 
 // The root of cell i: what its links lead to. Each second cell on the way is linked past the next, which keeps paths short.
@@ -56,7 +47,13 @@ pub(crate) fn find(cells: &mut [u32], i: u32) -> u32
 }
 
 // The greater root j is linked to the smaller root i. What the greater says is copied to a free one.
-fn link(cells: &mut [u32], i: u32, j: u32, low: TypeCell, high: TypeCell) -> Encounter
+fn link(
+    cells: &mut [u32],
+    i: u32,
+    j: u32,
+    low: TypeCell,
+    high: TypeCell,
+) -> Result<Option<Parts>, Clash>
     requires { TwoRoots cells.old i j low high }
     ensures { Meeting cells.old cells.new i j result }
 {
@@ -66,29 +63,32 @@ fn link(cells: &mut [u32], i: u32, j: u32, low: TypeCell, high: TypeCell) -> Enc
     if tag == 0 {
         put(cells, i, high);
         put(cells, j, link);
-        return Encounter::Done;
+        return Ok(None);
     }
     if other == 0 {
         put(cells, j, link);
-        return Encounter::Done;
+        return Ok(None);
     }
     if tag != other {
-        return Encounter::Clash;
+        return Err(Clash);
     }
     put(cells, j, link);
     if tag == 5 {
-        return Encounter::Parts {
+        let left = Pair {
             left: low.a,
-            other_left: high.a,
-            right: low.b,
-            other_right: high.b,
+            right: high.a,
         };
+        let right = Pair {
+            left: low.b,
+            right: high.b,
+        };
+        return Ok(Some(Parts { left, right }));
     }
-    Encounter::Done
+    Ok(None)
 }
 
 // Two roots meet, the smaller first.
-fn merge(cells: &mut [u32], i: u32, j: u32) -> Encounter
+fn merge(cells: &mut [u32], i: u32, j: u32) -> Result<Option<Parts>, Clash>
     requires { Sound cells.old × IsRoot cells.old i × IsRoot cells.old j × (i < j) }
     ensures { Meeting cells.old cells.new i j result }
 {
@@ -98,12 +98,12 @@ fn merge(cells: &mut [u32], i: u32, j: u32) -> Encounter
 }
 
 // Two roots meet.
-fn meet_roots(cells: &mut [u32], p: u32, q: u32) -> Encounter
+fn meet_roots(cells: &mut [u32], p: u32, q: u32) -> Result<Option<Parts>, Clash>
     requires { Sound cells.old × IsRoot cells.old p × IsRoot cells.old q }
     ensures { Meeting cells.old cells.new p q result }
 {
     if p == q {
-        return Encounter::Done;
+        return Ok(None);
     }
     if p < q {
         return merge(cells, p, q);
@@ -112,7 +112,7 @@ fn meet_roots(cells: &mut [u32], p: u32, q: u32) -> Encounter
 }
 
 // Two cells meet, by way of their roots.
-fn meet(cells: &mut [u32], i: u32, j: u32) -> Encounter
+fn meet(cells: &mut [u32], i: u32, j: u32) -> Result<Option<Parts>, Clash>
     requires { Sound cells.old × (i < cells_in cells.old) × (j < cells_in cells.old) }
     ensures { Meeting cells.old cells.new i j result }
 {
@@ -122,7 +122,7 @@ fn meet(cells: &mut [u32], i: u32, j: u32) -> Encounter
 }
 
 // Cells i and j are made equal, and so many pending pairs beside the first cells.
-pub(crate) fn solve(cells: &mut [u32], i: u32, j: u32, pending: u32) -> bool
+pub(crate) fn solve(cells: &mut [u32], i: u32, j: u32, pending: u32) -> Result<(), Clash>
     requires { Sound cells.old × (i < cells_in cells.old) × (j < cells_in cells.old) × PairsInside cells.old pending × (pending ≤ 1) }
     ensures { Outcome cells.old cells.new (AllEqual cells.old i j pending) result }
 {
@@ -130,44 +130,28 @@ pub(crate) fn solve(cells: &mut [u32], i: u32, j: u32, pending: u32) -> bool
     let mut b = j;
     let mut left = pending;
     loop {
-        let met = meet(cells, a, b);
-        match met {
-            Encounter::Clash => {
-                return false;
-            }
-            Encounter::Done => {
+        match meet(cells, a, b)? {
+            None => {
                 if left == 0 {
-                    return true;
+                    return Ok(());
                 }
                 left -= 1;
                 let next = get_pair(cells, left);
                 a = next.left;
                 b = next.right;
             }
-            Encounter::Parts {
-                left: l,
-                other_left,
-                right,
-                other_right,
-            } => {
-                put_pair(
-                    cells,
-                    left,
-                    Pair {
-                        left: right,
-                        right: other_right,
-                    },
-                );
+            Some(parts) => {
+                put_pair(cells, left, parts.right);
                 left += 1;
-                a = l;
-                b = other_left;
+                a = parts.left.left;
+                b = parts.left.right;
             }
         }
     }
 }
 
 // Two arrows have equal parts.
-fn equal_parts(cells: &mut [u32], one: TypeCell, other: TypeCell) -> bool
+fn equal_parts(cells: &mut [u32], one: TypeCell, other: TypeCell) -> Result<(), Clash>
     requires { Sound cells.old × PartsInside cells.old one × PartsInside cells.old other }
     ensures { Outcome cells.old cells.new (λ ρ. (ρ one.a ≡ ρ other.a) × (ρ one.b ≡ ρ other.b)) result }
 {
@@ -183,7 +167,7 @@ fn equal_parts(cells: &mut [u32], one: TypeCell, other: TypeCell) -> bool
 }
 
 // What c says is true of the type of root r. It is a base type or an arrow.
-pub(crate) fn say_root(cells: &mut [u32], r: u32, c: TypeCell) -> bool
+pub(crate) fn say_root(cells: &mut [u32], r: u32, c: TypeCell) -> Result<(), Clash>
     requires { SayReady cells.old r c }
     ensures { Outcome cells.old cells.new (λ ρ. Fits ρ r (cell_of c)) result }
 {
@@ -192,13 +176,13 @@ pub(crate) fn say_root(cells: &mut [u32], r: u32, c: TypeCell) -> bool
     let said = c.tag;
     if tag == 0 {
         put(cells, r, c);
-        return true;
+        return Ok(());
     }
     if tag != said {
-        return false;
+        return Err(Clash);
     }
     if tag != 5 {
-        return true;
+        return Ok(());
     }
     equal_parts(cells, root, c)
 }

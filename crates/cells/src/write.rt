@@ -36,8 +36,8 @@ fn root(cells: &[u32], i: u32) -> u32
     }
 }
 
-// What is left of the room after the words of cell i's type, 0 if it has as many or more.
-pub(crate) fn measure(cells: &[u32], i: u32, room: usize) -> usize
+// What is left of the room after the words of cell i's type, if it has no more.
+pub(crate) fn measure(cells: &[u32], i: u32, room: usize) -> Option<usize>
     requires { Sound cells.now × (i < cells_in cells.now) }
     ensures { Measured cells.now i room result }
 {
@@ -45,15 +45,15 @@ pub(crate) fn measure(cells: &[u32], i: u32, room: usize) -> usize
     let mut room = room;
     loop {
         if room == 0 {
-            return 0;
+            return None;
         }
         let r = root(cells, i);
         let c = get(cells, r);
         let tag = c.tag;
         if tag != 5 {
-            return room - 1;
+            return Some(room - 1);
         }
-        room = measure(cells, c.a, room - 1);
+        room = measure(cells, c.a, room - 1)?;
         i = c.b;
     }
 }
@@ -68,7 +68,7 @@ fn variable(cells: &mut [u32], r: u32, numbered: u32) -> Word
     if number != 0 {
         return Word {
             word: number + 15,
-            numbered: numbered,
+            numbered,
         };
     }
     let next = numbered + 1;
@@ -98,7 +98,7 @@ fn leaf(cells: &mut [u32], r: u32, numbered: u32) -> Word
     }
     Word {
         word: tag - 1,
-        numbered: numbered,
+        numbered,
     }
 }
 
@@ -132,10 +132,7 @@ pub(crate) fn write(cells: &mut [u32], out: &mut [u32], i: u32, left: usize, num
     let mut numbered = numbered;
     loop {
         if left == 0 {
-            return Rest {
-                left: left,
-                numbered: numbered,
-            };
+            return Rest { left, numbered };
         }
         let r = root(cells, i);
         let c = get(cells, r);
