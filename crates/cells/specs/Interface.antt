@@ -4,33 +4,37 @@ use Rattle.std.specs.Prelude.{ℕ, ◌≤◌, ◌<◌, ◌≡◌, Bool, true, fa
 use Rattle.language.specs.Ty.{Ty, Subst}
 use Rattle.language.specs.WrittenForm.{words_of}
 use Rattle.cells.specs.Cells.{Store, Sat, Ev, Grounds}
-use Rattle.cells.specs.Layout.{cell_at, pair_at, no_pair, store_of, Sound, SameCells}
+use Rattle.cells.specs.Layout.{words_at, as_words, pair_at, no_pair, store_of, Sound, SameCells}
 use Rattle.cells.specs.declared.TypeCell.{TypeCell}
+use Rattle.cells.specs.declared.TypeCell.TheVariants.{Free, Link, UnitType, BoolType, IntType, Arrow}
 use Rattle.cells.specs.declared.Clash.{Clash}
 
 -- ---- start
 
 -- bool, int, int → int and int → bool, as cells 0 to 3.
 abbrev pub constants : List TypeCell
-constants = record { tag = 3; a = 0; b = 0 } ∷ record { tag = 4; a = 0; b = 0 } ∷ record { tag = 5; a = 1; b = 1 } ∷ record { tag = 5; a = 1; b = 0 } ∷ []
+constants = BoolType ∷ IntType ∷ Arrow 1 1 ∷ Arrow 1 0 ∷ []
 
 -- All others are free.
 abbrev pub new_cell : ℕ → TypeCell
-new_cell i = get_or constants i (record { tag = 0; a = 0; b = 0 })
+new_cell i = get_or constants i Free
 
 -- Every word is a new one: those of the cells and those beside them.
 pub record Started (before after : List ℕ) : Type 0 where
   pub same_length : length after ≡ length before
-  pub cells : (i : ℕ) → cell_at after i ≡ new_cell i
+  pub cells : (i : ℕ) → words_at after i ≡ as_words (new_cell i)
   pub pairs : (i : ℕ) → pair_at after i ≡ no_pair
 
 -- ---- say and join
 
 -- What may be said of a type: that it is a base type, or an arrow of two of the n cells.
-pub record Sayable (n : ℕ) (c : TypeCell) : Type 0 where
-  pub built : 1 < c.tag
-  pub tag_known : c.tag ≤ 5
-  pub parts_inside : c.tag ≡ 5 → (c.a < n) × (c.b < n)
+abbrev pub Sayable : ℕ → TypeCell → Type 0
+Sayable n Free = ⊥
+Sayable n (Link j) = ⊥
+Sayable n UnitType = Unit
+Sayable n BoolType = Unit
+Sayable n IntType = Unit
+Sayable n (Arrow l r) = (l < n) × (r < n)
 
 -- The valuations that satisfied the cells and meet a demand are those that satisfy the cells now.
 pub record DemandMet (before after : List ℕ) (demand : Subst → Type 0) : Type 0 where

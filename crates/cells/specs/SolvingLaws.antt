@@ -7,13 +7,15 @@ use Rattle.std.proofs.Math.Dec.{eqb}
 use Rattle.language.specs.Ty.{Subst}
 use Rattle.language.proofs.Count.{count_same, count_but_0}
 use Rattle.cells.specs.Cells.{Sat}
-use Rattle.cells.specs.Layout.{cell_at, pair_at, store_of, cells_in, Sound}
-use Rattle.cells.specs.StoreLaws.{store_beside, sound_beside}
+use Rattle.cells.specs.CellSteps.{tag}
+use Rattle.cells.specs.Layout.{words_at, cell_in, cell_at, pair_at, store_of, cells_in, Sound}
+use Rattle.cells.specs.StoreLaws.{link_falls, store_beside, sound_beside}
 use Rattle.cells.specs.Solving.{is_link_in, links_in, Pending, AllEqual, PairsInside, Joined, Meeting}
 use Rattle.cells.specs.Puts.{PairPut}
 use Rattle.cells.specs.Interface.{Outcome}
 use Rattle.cells.specs.Meetings.{meeting_is}
 use Rattle.cells.specs.declared.TypeCell.{TypeCell}
+use Rattle.cells.specs.declared.TypeCell.TheVariants.{Free, Link, UnitType, BoolType, IntType, Arrow}
 use Rattle.cells.specs.declared.memory.Pair.{Pair}
 use Rattle.cells.specs.declared.Clash.{Clash}
 use Rattle.cells.specs.declared.solve.Parts.{Parts}
@@ -63,7 +65,15 @@ solving_starts s i_in j_in pairs few =
 -- Cell 0 is no link, since links lead down.
 links_few : {mem : List ℕ} → Sound mem → 0 < cells_in mem → links_in mem < cells_in mem
 unfolding links_in
-links_few {mem} s some = count_but_0 (is_link_in mem) (cells_in mem) some (ne_eqb (cell_at mem 0).tag 1 (λ e. let down = (s.allowed 0).link_down e in omega arith))
+links_few {mem} s some = count_but_0 (is_link_in mem) (cells_in mem) some (ne_eqb (tag (cell_at mem 0)) 1 (first_no_link (cell_at mem 0) refl))
+  where
+    first_no_link : (c : TypeCell) → c ≡ cell_at mem 0 → tag c ≢ 1
+    first_no_link Free e = λ is. absurd (omega arith)
+    first_no_link (Link j) e = λ is. let down = link_falls s 0 e refl in omega arith
+    first_no_link UnitType e = λ is. absurd (omega arith)
+    first_no_link BoolType e = λ is. absurd (omega arith)
+    first_no_link IntType e = λ is. absurd (omega arith)
+    first_no_link (Arrow l r) e = λ is. absurd (omega arith)
 
 module _ {before mem after : List ℕ} {i j pending a b left : ℕ} {met : Result (Option Parts) Clash} (r : Running before i j pending mem a b left) (meeting : Meeting mem after a b met) where
   pub lengths : length after ≡ length before
@@ -155,7 +165,7 @@ module _ {before mem after : List ℕ} {i j pending a b left : ℕ} {met : Resul
       links_counted : links_in pushed ≡ suc (links_in mem)
       unfolding links_in
       links_counted =
-          rw p.same_length (count_same (is_link_in pushed) (is_link_in after) (λ k. ap (λ (x : TypeCell). eqb x.tag 1) (p.cells k)) (cells_in after)) ∙ m.says.1
+          rw p.same_length (count_same (is_link_in pushed) (is_link_in after) (λ k. ap (λ w. eqb (tag (cell_in w)) 1) (p.cells k)) (cells_in after)) ∙ m.says.1
 
       pending_more : {ρ : Subst} → (Pending ρ mem left × (ρ parts.right.left ≡ ρ parts.right.right)) ↔ Pending ρ pushed (left + 1)
       pending_more {ρ} = (

@@ -6,6 +6,7 @@ use Rattle.language.specs.Unification.{size}
 use Rattle.language.specs.WrittenForm.{is_among, appearing, place_in, spell}
 use Rattle.language.proofs.Count.{count}
 use Rattle.cells.specs.Cells.{Ev}
+use Rattle.cells.specs.CellSteps.{tag}
 use Rattle.cells.specs.Layout.{cell_at, pair_at, cells_in, store_of, Sound}
 use Rattle.cells.specs.declared.write.Rest.{Rest}
 use Rattle.cells.specs.declared.write.Word.{Word}
@@ -15,7 +16,7 @@ use Rattle.cells.specs.declared.write.Word.{Word}
 -- Cell r is no link, and evaluates as cell i does.
 pub record Root (cells : List ℕ) (i r : ℕ) : Type 0 where
   pub below : r ≤ i
-  pub no_link : (cell_at cells r).tag ≢ 1
+  pub no_link : tag (cell_at cells r) ≢ 1
   pub same : (τ : Ty) → Ev (store_of cells) i τ → Ev (store_of cells) r τ
 
 -- So much is left of the room after so many words, or they have no room.
@@ -63,8 +64,8 @@ words_after seen τ = spell (place_in (appearing seen τ)) τ
 -- A cell of a base type or a variable.
 pub record LeafCell (cells : List ℕ) (r : ℕ) : Type 0 where
   pub inside : r < cells_in cells
-  pub no_link : (cell_at cells r).tag ≢ 1
-  pub no_arrow : (cell_at cells r).tag ≢ 5
+  pub no_link : tag (cell_at cells r) ≢ 1
+  pub no_arrow : tag (cell_at cells r) ≢ 5
 
 -- The type has this one word, and its variable is numbered.
 pub record OneWord (seen : List ℕ) (τ : Ty) (after : List ℕ) (w : Word) : Type 0 where

@@ -1,14 +1,14 @@
 // Solving: two cells are made equal, and with them the parts of arrows that meet. Links lead to smaller numbers.
 ghost use Rattle.std.specs.Prelude.{◌≤◌, ◌<◌, ◌≡◌};
 ghost use Rattle.cells.specs.Cells.{Fits};
-ghost use Rattle.cells.specs.Layout.{cell_of, cells_in, Sound};
+ghost use Rattle.cells.specs.Layout.{cell_in, cells_in, Sound};
 ghost use Rattle.cells.specs.Interface.{Outcome};
-ghost use Rattle.cells.specs.Solving.{IsRoot, Rooted, SayReady, AllEqual, PartsInside, PairsInside, TwoRoots, Meeting};
+ghost use Rattle.cells.specs.Solving.{IsRoot, Rooted, SayReady, AllEqual, Alike, PartsOf, PartsInside, PartsEqual, PairsInside, TwoRoots, Meeting};
 
-use crate::memory::{Pair, get, get_pair, put, put_pair};
+use crate::memory::{Pair, Words, get, get_pair, get_words, put, put_pair, put_words};
 use crate::{Clash, TypeCell};
 
-// The parts of two arrows that meet, whose left ones and right ones are to be equal.
+// The parts of two arrows that meet: the left ones are to be equal, and the right ones.
 #[derive(Drop)]
 pub(crate) struct Parts {
     left: Pair,
@@ -22,69 +22,57 @@ pub(crate) fn find(cells: &mut [u32], i: u32) -> u32
 {
     let mut at = i;
     loop {
-        let c = get(cells, at);
-        let tag = c.tag;
-        if tag != 1 {
+        let TypeCell::Link(next) = get(cells, at) else {
             return at;
-        }
-        let next = c.a;
-        let d = get(cells, next);
-        let next_tag = d.tag;
-        if next_tag != 1 {
+        };
+        let TypeCell::Link(past) = get(cells, next) else {
             return next;
-        }
-        put(
-            cells,
-            at,
-            TypeCell {
-                tag: 1,
-                a: d.a,
-                b: 0,
-            },
-        );
-        at = d.a;
+        };
+        put(cells, at, TypeCell::Link(past));
+        at = past;
     }
 }
 
+// The parts of two arrows that are to be equal, and none of the same base type. Cells are compared by their words, since a match on two cells
+// takes the solver 1.4 times the instructions.
+fn arrow_parts(one: Words, other: Words) -> Option<Parts>
+    requires { Alike one other }
+    ensures { PartsOf (cell_in one) (cell_in other) result }
+{
+    if one.tag != 5 {
+        return None;
+    }
+    let left = Pair {
+        left: one.a,
+        right: other.a,
+    };
+    let right = Pair {
+        left: one.b,
+        right: other.b,
+    };
+    Some(Parts { left, right })
+}
+
 // The greater root j is linked to the smaller root i. What the greater says is copied to a free one.
-fn link(
-    cells: &mut [u32],
-    i: u32,
-    j: u32,
-    low: TypeCell,
-    high: TypeCell,
-) -> Result<Option<Parts>, Clash>
+fn link(cells: &mut [u32], i: u32, j: u32, low: Words, high: Words) -> Result<Option<Parts>, Clash>
     requires { TwoRoots cells.old i j low high }
     ensures { Meeting cells.old cells.new i j result }
 {
-    let link = TypeCell { tag: 1, a: i, b: 0 };
-    let tag = low.tag;
-    let other = high.tag;
-    if tag == 0 {
-        put(cells, i, high);
+    let link = TypeCell::Link(i);
+    if low.tag == 0 {
+        put_words(cells, i, high);
         put(cells, j, link);
         return Ok(None);
     }
-    if other == 0 {
+    if high.tag == 0 {
         put(cells, j, link);
         return Ok(None);
     }
-    if tag != other {
+    if low.tag != high.tag {
         return Err(Clash);
     }
     put(cells, j, link);
-    if tag == 5 {
-        let left = Pair {
-            left: low.a,
-            right: high.a,
-        };
-        let right = Pair {
-            left: low.b,
-            right: high.b,
-        };
-        return Ok(Some(Parts { left, right }));
-    }
-    Ok(None)
+    Ok(arrow_parts(low, high))
 }
 
 // Two roots meet, the smaller first.
@@ -92,8 +80,8 @@ fn merge(cells: &mut [u32], i: u32, j: u32) -> Result<Option<Parts>, Clash>
     requires { Sound cells.old × IsRoot cells.old i × IsRoot cells.old j × (i < j) }
     ensures { Meeting cells.old cells.new i j result }
 {
-    let low = get(cells, i);
-    let high = get(cells, j);
+    let low = get_words(cells, i);
+    let high = get_words(cells, j);
     link(cells, i, j, low, high)
 }
 
@@ -150,39 +138,31 @@ pub(crate) fn solve(cells: &mut [u32], i: u32, j: u32, pending: u32) -> Result<(
     }
 }
 
-// Two arrows have equal parts.
-fn equal_parts(cells: &mut [u32], one: TypeCell, other: TypeCell) -> Result<(), Clash>
-    requires { Sound cells.old × PartsInside cells.old one × PartsInside cells.old other }
-    ensures { Outcome cells.old cells.new (λ ρ. (ρ one.a ≡ ρ other.a) × (ρ one.b ≡ ρ other.b)) result }
+// The parts of two arrows are made equal.
+fn equal_parts(cells: &mut [u32], parts: Parts) -> Result<(), Clash>
+    requires { Sound cells.old × PartsInside cells.old parts }
+    ensures { Outcome cells.old cells.new (PartsEqual parts) result }
 {
-    put_pair(
-        cells,
-        0,
-        Pair {
-            left: one.b,
-            right: other.b,
-        },
-    );
-    solve(cells, one.a, other.a, 1)
+    put_pair(cells, 0, parts.right);
+    solve(cells, parts.left.left, parts.left.right, 1)
 }
 
 // What c says is true of the type of root r. It is a base type or an arrow.
 pub(crate) fn say_root(cells: &mut [u32], r: u32, c: TypeCell) -> Result<(), Clash>
     requires { SayReady cells.old r c }
-    ensures { Outcome cells.old cells.new (λ ρ. Fits ρ r (cell_of c)) result }
+    ensures { Outcome cells.old cells.new (λ ρ. Fits ρ r c) result }
 {
-    let root = get(cells, r);
-    let tag = root.tag;
-    let said = c.tag;
-    if tag == 0 {
-        put(cells, r, c);
+    let root = get_words(cells, r);
+    let said = Words::from(c);
+    if root.tag == 0 {
+        put_words(cells, r, said);
         return Ok(());
     }
-    if tag != said {
-        return Err(Clash);
+    if root.tag != said.tag {
+        Err(Clash)
+    } else if let Some(parts) = arrow_parts(root, said) {
+        equal_parts(cells, parts)
+    } else {
+        Ok(())
     }
-    if tag != 5 {
-        return Ok(());
-    }
-    equal_parts(cells, root, c)
 }

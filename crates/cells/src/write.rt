@@ -1,9 +1,11 @@
 // The type of a cell, measured and written. Both are recursions over the type's structure with a count of remaining words that falls at
 // each call. The left part of an arrow is a call, the right part the next round of a loop.
 ghost use Rattle.std.specs.Prelude.{◌+◌, ◌≤◌, ◌<◌, ◌≢◌, ◌≡◌, length};
+ghost use Rattle.cells.specs.declared.TypeCell.TheVariants.{Free};
 ghost use Rattle.cells.specs.Layout.{cell_at, cells_in, Sound};
 ghost use Rattle.cells.specs.Writing.{Root, Measured, Ready, LeafCell, LeafSpelled, Wrote};
 
+use crate::TypeCell;
 use crate::memory::{Pair, get, get_pair, put_pair};
 
 // How many words remain to be written, and how many variables have a number.
@@ -26,14 +28,10 @@ fn root(cells: &[u32], i: u32) -> u32
     ensures { Root cells.now i result }
 {
     let mut r = i;
-    loop {
-        let c = get(cells, r);
-        let tag = c.tag;
-        if tag != 1 {
-            return r;
-        }
-        r = c.a;
+    while let TypeCell::Link(next) = get(cells, r) {
+        r = next;
     }
+    r
 }
 
 // What is left of the room after the words of cell i's type, if it has no more.
@@ -48,19 +46,17 @@ pub(crate) fn measure(cells: &[u32], i: u32, room: usize) -> Option<usize>
             return None;
         }
         let r = root(cells, i);
-        let c = get(cells, r);
-        let tag = c.tag;
-        if tag != 5 {
+        let TypeCell::Arrow(first, second) = get(cells, r) else {
             return Some(room - 1);
-        }
-        room = measure(cells, c.a, room - 1)?;
-        i = c.b;
+        };
+        room = measure(cells, first, room - 1)?;
+        i = second;
     }
 }
 
 // The word of the variable of cell r, which gets the next number if it has none. Beside its cell stands its number plus one.
 fn variable(cells: &mut [u32], r: u32, numbered: u32) -> Word
-    requires { Ready cells.old numbered × (r < cells_in cells.old) × ((cell_at cells.old r).tag ≡ 0) }
+    requires { Ready cells.old numbered × (r < cells_in cells.old) × (cell_at cells.old r ≡ Free) }
     ensures { LeafSpelled cells.old numbered r cells.new result }
 {
     let p = get_pair(cells, r);
@@ -91,15 +87,13 @@ fn leaf(cells: &mut [u32], r: u32, numbered: u32) -> Word
     requires { Ready cells.old numbered × LeafCell cells.old r }
     ensures { LeafSpelled cells.old numbered r cells.new result }
 {
-    let c = get(cells, r);
-    let tag = c.tag;
-    if tag == 0 {
-        return variable(cells, r, numbered);
-    }
-    Word {
-        word: tag - 1,
-        numbered,
-    }
+    let word = match get(cells, r) {
+        TypeCell::UnitType => 1,
+        TypeCell::BoolType => 2,
+        TypeCell::IntType => 3,
+        _ => return variable(cells, r, numbered),
+    };
+    Word { word, numbered }
 }
 
 // The one word of such a cell at its place in `out`, of whose words `left` remain to be written.
@@ -135,16 +129,14 @@ pub(crate) fn write(cells: &mut [u32], out: &mut [u32], i: u32, left: usize, num
             return Rest { left, numbered };
         }
         let r = root(cells, i);
-        let c = get(cells, r);
-        let tag = c.tag;
         let at = out.len() - left;
-        if tag != 5 {
+        let TypeCell::Arrow(first, second) = get(cells, r) else {
             return write_leaf(cells, out, r, at, left, numbered);
-        }
+        };
         out[at] = 4;
-        let first = write(cells, out, c.a, left - 1, numbered);
-        left = first.left;
-        numbered = first.numbered;
-        i = c.b;
+        let rest = write(cells, out, first, left - 1, numbered);
+        left = rest.left;
+        numbered = rest.numbered;
+        i = second;
     }
 }
