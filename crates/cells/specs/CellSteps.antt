@@ -100,14 +100,6 @@ tag BoolType = 3
 tag IntType = 4
 tag (Arrow l r) = 5
 
-pub not_free : (c : TypeCell) → (c ≡ Free → ⊥) → tag c ≢ 0
-not_free Free n = absurd (n refl)
-not_free (Link j) n = omega arith
-not_free UnitType n = omega arith
-not_free BoolType n = omega arith
-not_free IntType n = omega arith
-not_free (Arrow l r) n = omega arith
-
 pub not_link : (c : TypeCell) → ((j : ℕ) → c ≡ Link j → ⊥) → tag c ≢ 1
 not_link Free n = omega arith
 not_link (Link j) n = absurd (n j refl)

@@ -1,5 +1,5 @@
 -- A base type or an arrow is said of a cell, by way of its root.
-use Rattle.std.specs.Prelude.{ℕ, ◌≤◌, ◌<◌, ◌≡◌, refl, ◌≢◌, List, Option, Some, None, Result, Ok, Err}
+use Rattle.std.specs.Prelude.{ℕ, ◌≤◌, ◌<◌, ◌≡◌, refl, ◌≢◌, List, Some, Result, Ok, Err}
 use Rattle.std.proofs.Common.{sym, ◌∙◌, ap, subst, arith}
 use Rattle.language.specs.Ty.{◌⇒◌, Subst}
 use Rattle.cells.specs.Solving.{Rooted, SayReady, Alike, PartsOf, PartsInside, PartsEqual, AllEqual, PairsInside}

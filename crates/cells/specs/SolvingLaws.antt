@@ -8,7 +8,7 @@ use Rattle.language.specs.Ty.{Subst}
 use Rattle.language.proofs.Count.{count_same, count_but_0}
 use Rattle.cells.specs.Cells.{Sat}
 use Rattle.cells.specs.CellSteps.{tag}
-use Rattle.cells.specs.Layout.{words_at, cell_in, cell_at, pair_at, store_of, cells_in, Sound}
+use Rattle.cells.specs.Layout.{cell_in, cell_at, pair_at, store_of, cells_in, Sound}
 use Rattle.cells.specs.StoreLaws.{link_falls, store_beside, sound_beside}
 use Rattle.cells.specs.Solving.{is_link_in, links_in, Pending, AllEqual, PairsInside, Joined, Meeting}
 use Rattle.cells.specs.Puts.{PairPut}

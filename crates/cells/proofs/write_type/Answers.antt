@@ -12,7 +12,8 @@ returns-in_err-left c =
 pub write-requires : goal.write-requires
 write-requires c =
     let (unnumbered, inside) = c.requires in
-    let room = length-take-le (length c.args.out.now - c.in_ok-left.left) c.args.out.now (omega arith) in
+    let out = c.args.out.now in
+    let room = length-take-le (length out - c.in_ok-left.left) out (omega arith) in
     (ready_at_first unnumbered, inside, omega arith)
 
 pub returns : goal.returns

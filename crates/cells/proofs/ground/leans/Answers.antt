@@ -1,7 +1,7 @@
 -- `cells::ground::leans` meets its contract: a link leans on one cell, an arrow on two, and no other cell on any.
 use Rattle.std.proofs.Common.{sym, ◌∙◌}
 use Rattle.cells.specs.CellSteps.{not_link, not_arrow}
-use Rattle.cells.specs.GroundLaws.{link_inside, link_leans, arrow_inside, arrow_leans_left, arrow_leans_right, other_evaluates}
+use Rattle.cells.specs.GroundLaws.{link_leans, arrow_leans_left, arrow_leans_right, other_evaluates}
 use Rattle.cells.proofs.ground.leans.Goals as goal
 
 pub returns-in-Link : goal.returns-in-Link

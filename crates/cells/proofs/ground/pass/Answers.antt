@@ -1,5 +1,5 @@
 use Rattle.std.proofs.Common.{arith, ◌≡◌}
-use Rattle.cells.specs.GroundLaws.{progress_bounded, progress_then, pass_on}
+use Rattle.cells.specs.GroundLaws.{progress_bounded, pass_on}
 use Rattle.cells.proofs.ground.pass.Goals as goal
 
 pub overflow_add-new : goal.overflow_add-new

@@ -1,5 +1,5 @@
 use Rattle.std.proofs.Common.{arith, ◌≡◌, Ok, Some, None}
-use Rattle.cells.specs.SolvingLaws.{newest_inside, next_pair, next_pair_less, room_for_pair, few_pairs, parts_first, parts_less}
+use Rattle.cells.specs.SolvingLaws.{newest_inside, room_for_pair, few_pairs, parts_first, parts_less}
 use Rattle.cells.proofs.solve.solve.Goals as goal
 
 pub get_pair-next-requires : goal.get_pair-next-requires

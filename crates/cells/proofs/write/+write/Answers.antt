@@ -1,5 +1,3 @@
-use Rattle.std.proofs.Common.{arith}
-use Rattle.cells.specs.RootTypes.{root_is_leaf}
 use Rattle.cells.specs.WritingLaws.{wrote_none, root_wrote, right_part_next}
 use Rattle.cells.proofs.write.+write.Goals as goal
 

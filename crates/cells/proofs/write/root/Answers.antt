@@ -6,6 +6,8 @@ use Rattle.cells.proofs.write.root.Goals as goal
 pub loop-next-preserved : goal.loop-next-preserved
 loop-next-preserved c =
     let loop = c.loop-next in
-    let link = says c.args.cells.now loop.r c.get.ensures c.in-Link.is in
-    let falls = link_falls c.requires.0 loop.r c.get.ensures c.in-Link.is in
+    let read = c.get.ensures in
+    let is = c.in-Link.is in
+    let link = says c.args.cells.now loop.r read is in
+    let falls = link_falls c.requires.0 loop.r read is in
     (omega arith, λ τ d. ev_at link (loop.invariant.1 τ d))
