@@ -1,13 +1,12 @@
 // Code 3: a node other than 0 is not a child exactly once.
 ghost use Rattle.std.specs.Prelude.{◌+◌, ◌*◌, ◌≤◌, ◌<◌, ◌≡◌, true, eqb, length};
-ghost use Rattle.std.proofs.Math.Option.{none};
 ghost use Rattle.table.specs.Node.{node_at};
 ghost use Rattle.language.specs.Once.{once};
 ghost use Rattle.acceptance.specs.Refusals.{times_in, times_below, first_from, refuse_at};
 ghost use Rattle.table.specs.Reading.{node_in};
 ghost use Rattle.acceptance.specs.Counting.{misplaced_below, children_in, children_below};
 
-use crate::Verdict;
+use crate::Refusal;
 use table::{NodeWords, node_at};
 
 fn one_if(t: bool) -> u32
@@ -45,26 +44,26 @@ fn times_at(words: &[u32], p: u32, k: u32) -> u32
 }
 
 // Code 3: the smallest node other than 0 that is not a child exactly once.
-fn parents(words: &[u32], n: u32) -> Verdict
+fn parents(words: &[u32], n: u32) -> Result<u32, Refusal>
     requires { (4 * n ≤ length words.now) × (0 < n) }
-    ensures { result ≡ refuse_at 3 (first_from (misplaced_below (node_at words.now)) n 0) (Verdict.Accepted n) }
+    ensures { result ≡ refuse_at Refusal.Misplaced (first_from (misplaced_below (node_at words.now)) n 0) (Ok n) }
 {
     let mut k: u32 = 1;
     'nodes: loop {
         if n <= k {
-            break 'nodes Verdict::Accepted(n);
+            break 'nodes Ok(n);
         }
         let mut times: u32 = 0;
         let mut p: u32 = 0;
         while p < k {
             times += times_at(words, p, k);
             if 1 < times {
-                break 'nodes Verdict::Refused { code: 3, place: k };
+                break 'nodes Err(Refusal::Misplaced(k));
             }
             p += 1;
         }
         if times == 0 {
-            break 'nodes Verdict::Refused { code: 3, place: k };
+            break 'nodes Err(Refusal::Misplaced(k));
         }
         k += 1;
     }
@@ -123,7 +122,7 @@ fn has_parent(words: &[u32], k: u32) -> bool
 // all nodes for each.
 fn placed(words: &[u32], n: u32) -> bool
     requires { 4 * n ≤ length words.now }
-    ensures { result ≡ true → first_from (misplaced_below (node_at words.now)) n 0 ≡ none }
+    ensures { result ≡ true → first_from (misplaced_below (node_at words.now)) n 0 ≡ None }
 {
     if children(words, n) + 1 != n as u64 {
         return false;
@@ -140,12 +139,12 @@ fn placed(words: &[u32], n: u32) -> bool
 }
 
 // Code 3, by scans only where a node is misplaced.
-pub(crate) fn rooted(words: &[u32], n: u32) -> Verdict
+pub(crate) fn rooted(words: &[u32], n: u32) -> Result<u32, Refusal>
     requires { (4 * n ≤ length words.now) × (0 < n) }
-    ensures { result ≡ refuse_at 3 (first_from (misplaced_below (node_at words.now)) n 0) (Verdict.Accepted n) }
+    ensures { result ≡ refuse_at Refusal.Misplaced (first_from (misplaced_below (node_at words.now)) n 0) (Ok n) }
 {
     if placed(words, n) {
-        return Verdict::Accepted(n);
+        return Ok(n);
     }
     parents(words, n)
 }

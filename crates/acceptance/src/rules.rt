@@ -3,7 +3,7 @@ ghost use Rattle.std.specs.Prelude.{◌+◌, ◌*◌, ◌≤◌, ◌<◌, ◌≡
 ghost use Rattle.acceptance.specs.Refusals.{fits, is_unused, is_name, is_child, first_from, refuse_at};
 ghost use Rattle.acceptance.specs.FieldRules.{first_fits, second_fits, third_fits, field_fits, misfits};
 
-use crate::Verdict;
+use crate::Refusal;
 
 fn is_unused(x: u32) -> bool
     ensures { result ≡ is_unused x }
@@ -93,19 +93,19 @@ fn misfits(words: &[u32], n: u32, k: u32, f: usize) -> bool
 }
 
 // Code 2: the smallest node with an unknown kind or a field outside its rule.
-pub(crate) fn fields(words: &[u32], n: u32) -> Verdict
+pub(crate) fn fields(words: &[u32], n: u32) -> Result<u32, Refusal>
     requires { 4 * n ≤ length words.now }
-    ensures { result ≡ refuse_at 2 (first_from (λ k. not (fits words.now n k)) n 0) (Verdict.Accepted n) }
+    ensures { result ≡ refuse_at Refusal.Misfit (first_from (λ k. not (fits words.now n k)) n 0) (Ok n) }
 {
     let mut k: u32 = 0;
     'nodes: loop {
         if n <= k {
-            break 'nodes Verdict::Accepted(n);
+            break 'nodes Ok(n);
         }
         let mut f: usize = 0;
         while f < 3 {
             if misfits(words, n, k, f) {
-                break 'nodes Verdict::Refused { code: 2, place: k };
+                break 'nodes Err(Refusal::Misfit(k));
             }
             f += 1;
         }

@@ -1,9 +1,8 @@
 -- A node read from its words, kind by kind, where the code treats several kinds alike.
-use Rattle.std.specs.Prelude.{ℕ, zero, suc, ◌+◌, ◌*◌, ◌<◌, ◌≡◌, ◌⊎◌, Bool, cond, List, eqb}
+use Rattle.std.specs.Prelude.{ℕ, zero, suc, ◌+◌, ◌*◌, ◌<◌, ◌≡◌, ◌⊎◌, Bool, cond, List, eqb, None, Some}
 use Rattle.std.proofs.Math.Path.{refl}
 use Rattle.std.proofs.Common.{sym, ◌∙◌, ap, inl, inr, ⊎_elim, arith, ne_eqb}
 use Rattle.std.proofs.Math.Bool.{true, false}
-use Rattle.std.proofs.Math.Option.{none, some}
 use Rattle.language.specs.Expression.{Constant, Name}
 use Rattle.table.specs.Node.{Node, constant_node, name_node, application_node, if_node, lambda_node, let_node, rec_node, Field, field_a, field_b, field_c, word_at, node_of, node_at}
 use Rattle.table.specs.Scope.{binds_in, is_named, name_of}
@@ -50,7 +49,7 @@ leaf_is_no_parent a_name x k = refl
 
 module _ (kind a b c k : ℕ) (x : Name) where
   -- A lambda and a rec have one child, in field b, and bind their name there.
-  met_lambda_or_rec : (t named : Bool) (node : Node) → binds_in node field_b ≡ true → is_named x node ≡ named → met_in (cond t (some field_b) none) x node ≡ binding_if t named
+  met_lambda_or_rec : (t named : Bool) (node : Node) → binds_in node field_b ≡ true → is_named x node ≡ named → met_in (cond t (Some field_b) None) x node ≡ binding_if t named
   met_lambda_or_rec true named node binds is = rw (binds, is)
   met_lambda_or_rec false named node binds is = refl
 
@@ -61,7 +60,7 @@ module _ (kind a b c k : ℕ) (x : Name) where
 
   -- An application and an if bind nothing.
   binds_nowhere : (node : Node) → ((f : Field) → binds_in node f ≡ false) → (p q s : Bool) →
-      met_in (cond p (some field_a) (cond q (some field_b) (cond s (some field_c) none))) x node ≡ above_if p q s
+      met_in (cond p (Some field_a) (cond q (Some field_b) (cond s (Some field_c) None))) x node ≡ above_if p q s
   binds_nowhere node nothing true q s = rw (nothing field_a)
   binds_nowhere node nothing false true s = rw (nothing field_b)
   binds_nowhere node nothing false false true = rw (nothing field_c)
@@ -80,7 +79,7 @@ module _ (kind a b c k : ℕ) (x : Name) where
   unfolding node_of
   let_met_lem e = rw e (go (eqb b k) (eqb c k))
     where
-      go : (p q : Bool) → met_in (cond p (some field_b) (cond q (some field_c) none)) x (let_node a b c) ≡ let_met p q (eqb a x)
+      go : (p q : Bool) → met_in (cond p (Some field_b) (cond q (Some field_c) None)) x (let_node a b c) ≡ let_met p q (eqb a x)
       go true q = refl
       go false true = refl
       go false false = refl
@@ -126,7 +125,7 @@ module _ {words : List ℕ} {i k : ℕ} where
 -- ---- Names
 
 -- Only kind 4 is a name.
-no_name : (kind a b c : ℕ) → (kind ≡ 4 → ⊥) → name_of (node_of kind a b c) ≡ none
+no_name : (kind a b c : ℕ) → (kind ≡ 4 → ⊥) → name_of (node_of kind a b c) ≡ None
 unfolding node_of
 no_name zero a b c not4 = refl
 no_name (suc zero) a b c not4 = refl
@@ -145,6 +144,6 @@ module _ (words : List ℕ) (k : ℕ) where
   unfolding node_at node_of
   read_name e = rw e
 
-  pub read_no_name : (word_at words (4 * k) ≡ 4 → ⊥) → name_of (node_at words k) ≡ none
+  pub read_no_name : (word_at words (4 * k) ≡ 4 → ⊥) → name_of (node_at words k) ≡ None
   unfolding node_at
   read_no_name not4 = no_name (word_at words (4 * k)) (word_at words (4 * k + 1)) (word_at words (4 * k + 2)) (word_at words (4 * k + 3)) not4

@@ -2,12 +2,11 @@
 ghost use Rattle.std.specs.Prelude.{◌+◌, ◌*◌, ◌/◌, ◌≤◌, ◌<◌, ◌≡◌, false, eqb, length};
 ghost use Rattle.table.specs.Node.{word_at, node_at};
 ghost use Rattle.table.specs.Scope.{scope, first_named};
-ghost use Rattle.table.specs.Asked.{binder_answer, binder_in};
+ghost use Rattle.table.specs.Asked.{binder_in};
 ghost use Rattle.table.specs.Reading.{node_from, met_as, above_if, binding_if, let_met, met, walked};
 ghost use Rattle.table.specs.NodeLaws.{Passed};
 
 use crate::nodes::node_at;
-use crate::{Bound, Walked};
 
 // A node that the walk in search of a binder meets.
 #[derive(Drop)]
@@ -113,44 +112,45 @@ fn mentions(words: &[u32], i: usize, k: u32) -> bool
     words[i + 1] == k
 }
 
-// One step of the walk in search of the binder of x: the node at word i.
-pub fn walk_at(words: &[u32], i: usize, x: u32, current: u32) -> Walked
+// One step of the walk in search of the binder of x: the node at word i. Where that is the binder, the walk ends (`None`); else it goes on in
+// search of the parent of the node that it answers.
+pub fn walk_at(words: &[u32], i: usize, x: u32, current: u32) -> Option<u32>
     requires { (i + 4 ≤ length words.now) × (i / 4 < 4294967296) }
     ensures { result ≡ walked (node_from words.now i) x current (i / 4) }
 {
     if !mentions(words, i, current) {
-        return Walked::On(current);
+        return Some(current);
     }
     let met = meet_at(words, i, x, current);
     let p = (i / 4) as u32;
     match met {
-        Met::Binding => Walked::Binder,
-        Met::Above => Walked::On(p),
-        Met::Elsewhere => Walked::On(current),
+        Met::Binding => None,
+        Met::Above => Some(p),
+        Met::Elsewhere => Some(current),
     }
 }
 
 // The binder of the name x at node k.
-fn lookup(words: &[u32], x: u32, k: u32) -> Bound
+fn lookup(words: &[u32], x: u32, k: u32) -> Option<u32>
     requires { 4 * k ≤ length words.now }
-    ensures { result ≡ binder_answer (first_named (node_at words.now) x (scope (node_at words.now) k)) }
+    ensures { result ≡ first_named (node_at words.now) x (scope (node_at words.now) k) }
 {
     let mut current = k;
     let mut i = 4 * (k as usize);
     while 0 < i {
         i -= 4;
         let walked = walk_at(words, i, x, current);
-        let Walked::On(next) = walked else {
+        let Some(next) = walked else {
             let p = (i / 4) as u32;
-            return Bound::At(p);
+            return Some(p);
         };
         current = next;
     }
-    Bound::Nowhere
+    None
 }
 
 // The binder of the name at node k.
-pub fn binder(words: &[u32], k: u32) -> Bound
+pub fn binder(words: &[u32], k: u32) -> Option<u32>
     ensures { result ≡ binder_in words.now k }
 {
     if (k as usize) < words.len() / 4 {
@@ -159,9 +159,9 @@ pub fn binder(words: &[u32], k: u32) -> Bound
         if kind == 4 {
             lookup(words, w.a, k)
         } else {
-            Bound::Nowhere
+            None
         }
     } else {
-        Bound::Nowhere
+        None
     }
 }

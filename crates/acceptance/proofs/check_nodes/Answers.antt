@@ -1,12 +1,10 @@
 -- `acceptance::check_nodes` meets its contract: code 2, or what the tree gives.
 use Rattle.std.proofs.Common.{sym, ◌∙◌}
-use Rattle.acceptance.specs.Stages.{fields_halt, after_fields}
+use Rattle.acceptance.specs.Stages.{handed_up, fields_halt, after_fields}
 use Rattle.acceptance.proofs.check_nodes.Goals as goal
 
-pub returns-in_default : goal.returns-in_default
-returns-in_default c =
-    fields_halt c.args.words.now _ c.fields-fielded.ensures c.in_default.is
+pub returns-in_err-fields : goal.returns-in_err-fields
+returns-in_err-fields c = handed_up c.from_residual.ensures.1 ∙ fields_halt c.args.words.now _ c.fields.ensures c.in_err-fields.was
 
 pub returns : goal.returns
-returns c =
-    c.check_tree.ensures ∙ sym (after_fields c.args.words.now _ c.fields-fielded.ensures c.in-Accepted.is)
+returns c = c.check_tree.ensures ∙ sym (after_fields c.args.words.now _ c.fields.ensures c.in_ok-fields.was)

@@ -20,7 +20,7 @@ walk_at-walked-requires c = (omega arith, omega arith)
 pub loop-i-preserved : goal.loop-i-preserved
 loop-i-preserved c =
     let w = c.loop-i.invariant in
-    walk_goes_on w (omega arith) c.walk_at-walked.ensures c.in-On.is
+    walk_goes_on w (omega arith) c.walk_at-walked.ensures c.in-Some.is
 
 pub nodes-preserved : goal.nodes-preserved
 nodes-preserved c =
