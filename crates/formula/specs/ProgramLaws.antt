@@ -1,5 +1,5 @@
 -- The program's parts together.
-use Rattle.std.specs.Prelude.{ℕ, ◌≤◌, min, ◌≡◌, refl, List, [], ◌∷◌, ◌++◌, length, take, replicate}
+use Rattle.std.specs.Prelude.{ℕ, ◌≤◌, min, ◌≡◌, refl, Result, Ok, Err, List, [], ◌∷◌, ◌++◌, length, take, replicate}
 use Rattle.std.proofs.Common.{sym, ◌∙◌, ap, arith}
 use Rattle.std.proofs.Math.Option.{Option, none, some}
 use Rattle.std.proofs.lemmas.List.{length-replicate}
@@ -14,8 +14,7 @@ use Rattle.decimal.specs.declared.text.Text.{Text}
 use Rattle.decimal.specs.ScanIsWordsIn.{scan_is_words_in}
 use Rattle.inference.specs.Inference.{After, leaves, Infers}
 use Rattle.inference.specs.TypeWithin.{type_within}
-use Rattle.inference.specs.declared.Inferred.{Inferred}
-use Rattle.inference.specs.declared.Inferred.TheVariants.{Typed, Refused}
+use Rattle.inference.specs.declared.Untyped.{Untyped}
 use Rattle.machine.specs.Runs.{RunIs}
 use Rattle.machine.specs.declared.Ran.{Ran}
 use Rattle.formula.specs.Lines.{type_line, run_line, input_text, input_line}
@@ -51,12 +50,12 @@ pub record TwoLinesIn (words : List ℕ) (t : Text) : Type 0 where
   pub inside : t.at ≤ length t.lent.now
   pub lines : TwoLines words (take t.at t.lent.now)
 
-pub type_fits : {words work out work' out' : List ℕ} {a : Inferred} → Infers words work out (leaves a work' out') → words_shown a ≤ length out
+pub type_fits : {words work out work' out' : List ℕ} {a : Result ℕ Untyped} → Infers words work out (leaves a work' out') → words_shown a ≤ length out
 type_fits {words} {work} {out} {work'} {out'} {a} i = go a i
   where
-    go : (a : Inferred) → Infers words work out (leaves a work' out') → words_shown a ≤ length out
-    go (Typed count) i = type_within i refl
-    go (Refused code place) i = omega arith
+    go : (a : Result ℕ Untyped) → Infers words work out (leaves a work' out') → words_shown a ≤ length out
+    go (Ok count) i = type_within i refl
+    go (Err untyped) i = omega arith
 
 pub two_lines_fit : {words : List ℕ} {t t₁ t₂ : Text} → Blank t → TypeLineIn words t t₁ → RunLineIn words t₁ t₂ → TwoLinesIn words t₂
 two_lines_fit {t = t} blank type run =
