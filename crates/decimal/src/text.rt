@@ -2,7 +2,6 @@
 ghost use Rattle.std.specs.Prelude.{◌≡◌, ◌*◌, [], ◌∷◌, map, length};
 ghost use Rattle.std.specs.Int.{w32};
 ghost use Rattle.std.proofs.Common.{to_z};
-ghost use Rattle.lent.specs.Written.{Written, WrittenWithin};
 ghost use Rattle.decimal.specs.Puts.{Puts, PutsWithin};
 ghost use Rattle.decimal.specs.Decimal.{decimal, signed_decimal, spaced};
 
