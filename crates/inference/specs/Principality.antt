@@ -1,6 +1,6 @@
 -- The cells of a solved table give its most general type, or it has none.
 use Rattle.std.specs.Prelude.{ℕ, ◌+◌, ◌-◌, ◌≤◌, ◌<◌, ◌≡◌, refl, true, false, List, [], ◌∷◌, length, get_or, Option, ok_or, Result, Ok, Err, IsErrAnd}
-use Rattle.std.proofs.Common.{sym, ◌∙◌, ap, arith}
+use Rattle.std.proofs.Common.{◌∙◌, ap, arith}
 use Rattle.std.proofs.Math.Path.{fun_ext}
 use Rattle.std.proofs.Math.ListN.{get_or-eq_default}
 use Rattle.language.specs.Ty.{Ty, bool, int, ◌⇒◌, Subst}
@@ -81,6 +81,7 @@ module _ {words : List ℕ} {n : ℕ} {before new : List ℕ} (room : TreeRoom w
         let some = room.tree_in.closed.tree.root in
         let whole : length tested ≡ cell_words n = g.same.same_length ∙ o.same_length ∙ started.same_length ∙ room.whole in
         types {τ = γ 4} g.ready (omega arith) (rw (same_store g.same) (grounds.at 4)) (grounded_principal grounds)
+
     pub ungrounded_found : {tested : List ℕ} → GroundTested mem tested false → TypesFound formula tested (Err NoType)
     ungrounded_found g = no_types (untypable (λ s h. g.says (with_constants s) (satisfies s h)))
 

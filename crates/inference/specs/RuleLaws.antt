@@ -1,6 +1,6 @@
 -- What is demanded of the cells of a node is that its equations are solved, rule by rule.
-use Prim.Native.Nat.{ℕ, zero, suc, ◌+◌, ◌-◌, ◌≤◌, ◌<◌}
-use Rattle.std.specs.Prelude.{◌≡◌, Bool, true, cond, ◌≢◌, ◌↔◌, ◌⊎◌, List, [], ◌∷◌, Option, None, Some, Result, Ok}
+use Prim.Native.Nat.{ℕ, zero, suc, ◌-◌, ◌≤◌, ◌<◌}
+use Rattle.std.specs.Prelude.{◌≡◌, cond, ◌≢◌, ◌↔◌, ◌⊎◌, List, [], ◌∷◌, Option, None, Some, Result, Ok}
 use Rattle.std.proofs.Math.Path.{refl, sym}
 use Rattle.std.proofs.Common.{◌∙◌, ap, ap₂, inl, inr, lt-ltb, le-ltb}
 use native.Mathlib.Omega.{arith}
@@ -18,7 +18,7 @@ use Rattle.table.specs.NodeLaws.{reads_as}
 use Rattle.table.specs.Lookup.{found_below_lem}
 use Rattle.table.specs.declared.NodeWords.{NodeWords}
 use Rattle.equations.specs.Equations.{equations_at}
-use Rattle.cells.specs.Cells.{Fits, Sat}
+use Rattle.cells.specs.Cells.{Sat}
 use Rattle.cells.specs.Layout.{store_of, Sound}
 use Rattle.cells.specs.Interface.{Outcome}
 use Rattle.cells.specs.Outcomes.{outcome_for}
