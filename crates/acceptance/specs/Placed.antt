@@ -1,7 +1,7 @@
 -- If the nodes have as many children fields as there are nodes but the root, and each node but the root stands in one, then each stands in
 -- exactly one.
 use Prim.Native.Nat.{ℕ, zero, suc, ◌+◌, ◌≤◌, ◌<◌}
-use Rattle.std.specs.Prelude.{◌≡◌, refl, true, false, eqb, Option, None, Some, is_some}
+use Rattle.std.specs.Prelude.{◌≡◌, refl, false, eqb, Option, None, Some, is_some}
 use Rattle.std.proofs.Math.Path.{ap}
 use Rattle.std.proofs.Math.Decide.{ℕ_discrete}
 use native.Mathlib.Omega.{arith}
@@ -148,7 +148,3 @@ parents_so_far nd {k} before here j low high = go (ℕ_discrete j k)
     go : Dec (j ≡ k) → 1 ≤ times_below nd j j
     go (yes e) = rw e here
     go (no d) = before j low (omega arith)
-
--- Nothing is claimed where the answer is no.
-pub no_claim : {A : Type 0} → false ≡ true → A
-no_claim e = absurd (let z : ◌≡◌ {A = ℕ} 0 1 = cc in omega arith)

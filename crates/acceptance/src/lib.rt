@@ -2,16 +2,18 @@
 #![tactic(auto)]
 
 mod names;
+mod nodes;
 mod parents;
 mod rules;
 
-ghost use Rattle.std.specs.Prelude.{◌*◌, ◌≤◌, ◌<◌, ◌≡◌, length};
-ghost use Rattle.table.specs.Node.{node_at, count_of};
-ghost use Rattle.acceptance.specs.Refusals.{miscount, refuse_at, check_nodes, check_of, refusal_code, refusal_place};
-ghost use Rattle.acceptance.specs.Stages.{check_tree};
+ghost use Rattle.std.specs.Prelude.{◌≡◌, length};
+ghost use Rattle.table.specs.Node.{count_of};
+ghost use Rattle.acceptance.specs.Refusals.{miscount, refuse_at, check_of, refusal_code, refusal_place};
+
+use crate::nodes::Nodes;
 
 // Why a table is refused, with the smallest node that is at fault.
-#[derive(Clone, Copy)]
+#[derive(Clone, Copy, Debug, PartialEq, Eq)]
 pub enum Refusal {
     // 1: the word count is 0, no multiple of 4, or above 2,048.
     WrongCount,
@@ -58,28 +60,10 @@ fn count(words: &[u32]) -> Result<u32, Refusal>
     }
 }
 
-// The node count of n nodes that keep the rules of their kinds, or code 3 or 4.
-fn check_tree(words: &[u32], n: u32) -> Result<u32, Refusal>
-    requires { (4 * n ≤ length words.now) × (0 < n) }
-    ensures { result ≡ check_tree words.now n }
-{
-    parents::rooted(words, n)?;
-    names::names(words, n)
-}
-
-// The node count of n nodes, or code 2, 3 or 4.
-fn check_nodes(words: &[u32], n: u32) -> Result<u32, Refusal>
-    requires { (4 * n ≤ length words.now) × (0 < n) }
-    ensures { result ≡ check_nodes words.now (node_at words.now) n }
-{
-    rules::fields(words, n)?;
-    check_tree(words, n)
-}
-
 // The check of a table: the node count of a table that is in order, or the first refusal in order.
 pub fn check(words: &[u32]) -> Result<u32, Refusal>
     ensures { result ≡ check_of words.now }
 {
-    let n = count(words)?;
-    check_nodes(words, n)
+    let count = count(words)?;
+    Nodes { words, count }.check()
 }

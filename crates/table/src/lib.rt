@@ -8,7 +8,7 @@ pub use binders::{binder, walk_at};
 pub use nodes::{node_at, read};
 
 // The four words of a node.
-#[derive(Clone, Copy)]
+#[derive(Clone, Copy, Debug, PartialEq, Eq)]
 pub struct NodeWords {
     pub kind: u32,
     pub a: u32,
