@@ -19,4 +19,4 @@ returns-in-Ok c =
     rw is (type_told c.args.types.now (rw is at c.requires) c.pack.ensures c.write_bytes.ensures)
 
 pub returns-in-Err : goal.returns-in-Err
-returns-in-Err c = rw c.in-Err.is (record { number = c.pack-in-Err.ensures; out_is_after = refl })
+returns-in-Err c = rw c.in-Err.is (record { number = rw (c.code.ensures, c.place.ensures) at c.pack-in-Err.ensures; out_is_after = refl })
