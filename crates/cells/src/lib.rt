@@ -15,7 +15,7 @@ ghost use Rattle.cells.specs.Interface.{Started, Sayable, Outcome, GroundTested,
 use crate::ground::{sweep, unmark};
 use crate::memory::put;
 use crate::solve::{find, say_root, solve};
-use crate::write::measure;
+use crate::write::{Rest, measure, write};
 
 // What is known of a type: nothing, that it is this cell's, that it is a base type, or that it is an arrow from the one cell's to the other's.
 #[derive(Clone, Copy)]
@@ -79,6 +79,10 @@ pub fn write_type(cells: &mut [u32], i: u32, out: &mut [u32]) -> Option<usize>
     let room = out.len();
     let left = measure(cells, i, room)?;
     let count = room - left;
-    write::write(cells, &mut out[..count], i, count, 0);
+    let all = Rest {
+        left: count,
+        numbered: 0,
+    };
+    write(cells, &mut out[..count], i, all);
     Some(count)
 }
