@@ -32,6 +32,9 @@ pub enum TypeCell {
 #[derive(Clone, Copy, Debug, PartialEq, Eq)]
 pub struct Clash;
 
+// That cells are sound stands in each `requires` and in no type of lent words, since `start` asks for four cells only: a type that it made would ask
+// its callers for whole cells, at most 4,096, too.
+
 // All cells are new: 0 to 3 are bool, int, int → int and int → bool, and of the others nothing is known.
 pub fn start(cells: &mut [u32])
     requires { 3 < cells_in cells.old }
