@@ -1,8 +1,8 @@
 -- The words of a cell's type, written part by part.
-use Prim.Native.Nat.{ℕ, zero, suc, ◌+◌, ◌-◌, ◌≤◌, ◌<◌}
+use Prim.Native.Nat.{ℕ, suc, ◌+◌, ◌-◌, ◌≤◌, ◌<◌}
 use Rattle.std.specs.Prelude.{◌≡◌, true, false, ◌≢◌, take, set, Some, None}
 use Rattle.std.proofs.Math.Path.{refl, ap}
-use Rattle.std.proofs.Common.{sym, ◌∙◌, subst, add-zero, zero-add, length-append, ne_eqb, get_or}
+use Rattle.std.proofs.Common.{sym, ◌∙◌, subst, add-zero, zero-add, length-append, ne_eqb}
 use mathlib.Core.List.{List, [], ◌∷◌, ◌++◌, append-nil}
 use Rattle.std.proofs.Math.Decide.{ℕ_discrete}
 use native.Mathlib.Omega.{arith}
@@ -16,9 +16,8 @@ use Rattle.language.proofs.Count.{count, count_bound, count_changed, none_counte
 use Rattle.cells.specs.Interface.{Unnumbered, TypeWritten, fits, over, CellWritten}
 use Rattle.cells.specs.Cells.{Ev}
 use Rattle.cells.specs.Grounded.{ev_at}
-use Rattle.cells.specs.CellSteps.{tag}
-use Rattle.cells.specs.Layout.{words_at, cell_in, cell_at, pair_at, cells_in, store_of}
-use Rattle.cells.specs.StoreLaws.{parts_inside, store_beside, sound_beside, says, tag_of}
+use Rattle.cells.specs.Layout.{cell_at, pair_at, cells_in, store_of}
+use Rattle.cells.specs.StoreLaws.{parts_inside, store_beside, sound_beside, says}
 use Rattle.cells.specs.Writing.{Root, Measured, number_in, Numbers, has_number, Ready, Kept, words_after, LeafCell, OneWord, LeafSpelled, WordsPut, Wrote}
 use Rattle.cells.specs.Spelling.{length-spell, size_positive, number_other, appearing_new, number_new, words_new, appearing_old, words_old, words_arrow}
 use Rattle.cells.specs.RootTypes.{parts, LeafType, is_variable, is_unit, is_bool, is_int, leaf_type}
@@ -26,7 +25,6 @@ use Rattle.cells.specs.Puts.{PairPut}
 use Rattle.cells.specs.declared.TypeCell.{TypeCell}
 use Rattle.cells.specs.declared.TypeCell.TheVariants.{Free, Link, UnitType, BoolType, IntType, Arrow}
 use Rattle.cells.specs.declared.memory.Pair.{Pair}
-use Rattle.cells.specs.declared.memory.Words.{Words}
 use Rattle.cells.specs.declared.write.Rest.{Rest}
 use Rattle.cells.specs.declared.write.Word.{Word}
 
@@ -59,19 +57,6 @@ BaseWord Free w = ⊥
 BaseWord (Link j) w = ⊥
 BaseWord (Arrow l r) w = ⊥
 
--- It is its tag less one.
-base_tag : (w : Words) → w.tag ≤ 5 → tag (cell_in w) ≢ 1 → tag (cell_in w) ≢ 5 → w.tag ≢ 0 → BaseWord (cell_in w) (w.tag - 1)
-base_tag w known no_link no_arrow some = go w.tag known (rw (tag_of w known) at no_link) (rw (tag_of w known) at no_arrow) some
-  where
-    go : (t : ℕ) → t ≤ 5 → t ≢ 1 → t ≢ 5 → t ≢ 0 → BaseWord (get_or (Free ∷ Link w.a ∷ UnitType ∷ BoolType ∷ IntType ∷ Arrow w.a w.b ∷ []) t Free) (t - 1)
-    go zero h n₁ n₅ n₀ = absurd (n₀ refl)
-    go (suc zero) h n₁ n₅ n₀ = absurd (n₁ refl)
-    go (suc (suc zero)) h n₁ n₅ n₀ = refl
-    go (suc (suc (suc zero))) h n₁ n₅ n₀ = refl
-    go (suc (suc (suc (suc zero)))) h n₁ n₅ n₀ = refl
-    go (suc (suc (suc (suc (suc zero))))) h n₁ n₅ n₀ = absurd (n₅ refl)
-    go (suc (suc (suc (suc (suc (suc t)))))) h n₁ n₅ n₀ = absurd (omega arith)
-
 base_word : {r w : ℕ} {c : TypeCell} {τ : Ty} (seen : List ℕ) → BaseWord c w → LeafType r c τ → (words_after seen τ ≡ w ∷ []) × (appearing seen τ ≡ seen)
 unfolding spell appearing
 base_word seen h is_variable = absurd h
@@ -79,14 +64,12 @@ base_word seen h is_unit = rw h (refl, refl)
 base_word seen h is_bool = rw h (refl, refl)
 base_word seen h is_int = rw h (refl, refl)
 
-pub base_spelled : {cells : List ℕ} {numbered r : ℕ} {w : Words} → Ready cells numbered → LeafCell cells r → w ≡ words_at cells r → w.tag ≢ 0 →
-    LeafSpelled cells numbered r cells (record { word = w.tag - 1; numbered = numbered })
-base_spelled {cells} {r = r} {w = w} ready leaf e some = record {
+pub base_spelled : {cells : List ℕ} {numbered r w : ℕ} {x : TypeCell} → Ready cells numbered → LeafCell cells r → x ≡ cell_at cells r → BaseWord x w →
+    LeafSpelled cells numbered r cells (record { word = w; numbered = numbered })
+base_spelled ready leaf e base = record {
   kept = nothing_written ready;
   spelled = λ seen τ numbers d.
-      let at : cell_in w ≡ cell_at cells r = ap cell_in e in
-      let base = base_tag w (rw e (ready.sound.allowed r).tag_known) (rw at leaf.no_link) (rw at leaf.no_arrow) some in
-      let (is, same) = base_word seen base (leaf_type at leaf d) in
+      let (is, same) = base_word seen base (leaf_type e leaf d) in
       record { is = is; numbers = rw same numbers };
 }
 

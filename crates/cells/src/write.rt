@@ -6,7 +6,7 @@ ghost use Rattle.cells.specs.Layout.{cell_at, cells_in, Sound};
 ghost use Rattle.cells.specs.Writing.{Root, Measured, Ready, LeafCell, LeafSpelled, Wrote};
 
 use crate::TypeCell;
-use crate::memory::{Pair, get, get_pair, get_words, put_pair};
+use crate::memory::{Pair, get, get_pair, put_pair};
 
 // How many words of a slice remain to be written, and how many variables have a number.
 #[derive(Clone, Copy)]
@@ -82,20 +82,18 @@ fn variable(cells: &mut [u32], r: u32, numbered: u32) -> Word
     }
 }
 
-// The word of a cell that is neither a link nor an arrow: a base type's is its tag less one. A match on the cell takes long types 1.04 times the
-// instructions.
+// The word of a cell that is neither a link nor an arrow.
 fn leaf(cells: &mut [u32], r: u32, numbered: u32) -> Word
     requires { Ready cells.old numbered × LeafCell cells.old r }
     ensures { LeafSpelled cells.old numbered r cells.new result }
 {
-    let w = get_words(cells, r);
-    if w.tag == 0 {
-        return variable(cells, r, numbered);
-    }
-    Word {
-        word: w.tag - 1,
-        numbered,
-    }
+    let word = match get(cells, r) {
+        TypeCell::UnitType => 1,
+        TypeCell::BoolType => 2,
+        TypeCell::IntType => 3,
+        _ => return variable(cells, r, numbered),
+    };
+    Word { word, numbered }
 }
 
 // The one word of such a cell as the next of `out`.
