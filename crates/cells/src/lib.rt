@@ -17,7 +17,7 @@ use crate::memory::put;
 use crate::solve::{find, say_root, solve};
 use crate::write::{Rest, measure, write};
 
-// What is known of a type: nothing, that it is this cell's, that it is a base type, or that it is an arrow from the one cell's to the other's.
+// What is known of a type: nothing, that it is a cell's, that it is a base type, or that it is an arrow from the one cell's to the other's.
 #[derive(Clone, Copy)]
 pub enum TypeCell {
     Free,
@@ -32,8 +32,7 @@ pub enum TypeCell {
 #[derive(Clone, Copy, Debug, PartialEq, Eq)]
 pub struct Clash;
 
-// That cells are sound stands in each `requires` and in no type of lent words, since `start` asks for four cells only: a type that it made would ask
-// its callers for whole cells, at most 4,096, too.
+// `Sound` stands in each `requires`, and not in a type that `start` makes: `start` asks its callers for four cells, and must not ask for whole ones.
 
 // All cells are new: 0 to 3 are bool, int, int → int and int → bool, and of the others nothing is known.
 pub fn start(cells: &mut [u32])
