@@ -82,8 +82,8 @@ pub record WordsPut (seen : List ℕ) (τ : Ty) (left : ℕ) (before after cells
   pub numbers : Numbers cells rest.numbered (appearing seen τ)
   pub put : after ≡ sets before (length before - left) (words_after seen τ)
 
-pub record Wrote (cells : List ℕ) (i : ℕ) (out : List ℕ) (left numbered : ℕ) (cells' out' : List ℕ) (rest : Rest) : Type 0 where
-  pub kept : Kept cells cells' rest.numbered
-  pub no_more : rest.left ≤ left
+pub record Wrote (cells : List ℕ) (i : ℕ) (out : List ℕ) (rest : Rest) (cells' out' : List ℕ) (rest' : Rest) : Type 0 where
+  pub kept : Kept cells cells' rest'.numbered
+  pub no_more : rest'.left ≤ rest.left
   pub same_length : length out' ≡ length out
-  pub written : (seen : List ℕ) (τ : Ty) → Numbers cells numbered seen → Ev (store_of cells) i τ → size τ ≤ left → WordsPut seen τ left out out' cells' rest
+  pub written : (seen : List ℕ) (τ : Ty) → Numbers cells rest.numbered seen → Ev (store_of cells) i τ → size τ ≤ rest.left → WordsPut seen τ rest.left out out' cells' rest'

@@ -1,8 +1,8 @@
 -- The words of a cell's type, written part by part.
-use Prim.Native.Nat.{ℕ, zero, suc, ◌+◌, ◌-◌, ◌≤◌, ◌<◌}
+use Prim.Native.Nat.{ℕ, suc, ◌+◌, ◌-◌, ◌≤◌, ◌<◌}
 use Rattle.std.specs.Prelude.{◌≡◌, true, false, ◌≢◌, take, set, Some, None}
 use Rattle.std.proofs.Math.Path.{refl, ap}
-use Rattle.std.proofs.Common.{sym, ◌∙◌, subst, add-zero, zero-add, length-append, ne_eqb, get_or}
+use Rattle.std.proofs.Common.{sym, ◌∙◌, subst, add-zero, zero-add, length-append, ne_eqb}
 use mathlib.Core.List.{List, [], ◌∷◌, ◌++◌, append-nil}
 use Rattle.std.proofs.Math.Decide.{ℕ_discrete}
 use native.Mathlib.Omega.{arith}
@@ -16,9 +16,8 @@ use Rattle.language.proofs.Count.{count, count_bound, count_changed, none_counte
 use Rattle.cells.specs.Interface.{Unnumbered, TypeWritten, fits, over, CellWritten}
 use Rattle.cells.specs.Cells.{Ev}
 use Rattle.cells.specs.Grounded.{ev_at}
-use Rattle.cells.specs.CellSteps.{tag}
-use Rattle.cells.specs.Layout.{words_at, cell_in, cell_at, pair_at, cells_in, store_of}
-use Rattle.cells.specs.StoreLaws.{parts_inside, store_beside, sound_beside, says, tag_of}
+use Rattle.cells.specs.Layout.{cell_at, pair_at, cells_in, store_of}
+use Rattle.cells.specs.StoreLaws.{parts_inside, store_beside, sound_beside, says}
 use Rattle.cells.specs.Writing.{Root, Measured, number_in, Numbers, has_number, Ready, Kept, words_after, LeafCell, OneWord, LeafSpelled, WordsPut, Wrote}
 use Rattle.cells.specs.Spelling.{length-spell, size_positive, number_other, appearing_new, number_new, words_new, appearing_old, words_old, words_arrow}
 use Rattle.cells.specs.RootTypes.{parts, LeafType, is_variable, is_unit, is_bool, is_int, leaf_type}
@@ -26,7 +25,6 @@ use Rattle.cells.specs.Puts.{PairPut}
 use Rattle.cells.specs.declared.TypeCell.{TypeCell}
 use Rattle.cells.specs.declared.TypeCell.TheVariants.{Free, Link, UnitType, BoolType, IntType, Arrow}
 use Rattle.cells.specs.declared.memory.Pair.{Pair}
-use Rattle.cells.specs.declared.memory.Words.{Words}
 use Rattle.cells.specs.declared.write.Rest.{Rest}
 use Rattle.cells.specs.declared.write.Word.{Word}
 
@@ -59,19 +57,6 @@ BaseWord Free w = ⊥
 BaseWord (Link j) w = ⊥
 BaseWord (Arrow l r) w = ⊥
 
--- It is its tag less one.
-base_tag : (w : Words) → w.tag ≤ 5 → tag (cell_in w) ≢ 1 → tag (cell_in w) ≢ 5 → w.tag ≢ 0 → BaseWord (cell_in w) (w.tag - 1)
-base_tag w known no_link no_arrow some = go w.tag known (rw (tag_of w known) at no_link) (rw (tag_of w known) at no_arrow) some
-  where
-    go : (t : ℕ) → t ≤ 5 → t ≢ 1 → t ≢ 5 → t ≢ 0 → BaseWord (get_or (Free ∷ Link w.a ∷ UnitType ∷ BoolType ∷ IntType ∷ Arrow w.a w.b ∷ []) t Free) (t - 1)
-    go zero h n₁ n₅ n₀ = absurd (n₀ refl)
-    go (suc zero) h n₁ n₅ n₀ = absurd (n₁ refl)
-    go (suc (suc zero)) h n₁ n₅ n₀ = refl
-    go (suc (suc (suc zero))) h n₁ n₅ n₀ = refl
-    go (suc (suc (suc (suc zero)))) h n₁ n₅ n₀ = refl
-    go (suc (suc (suc (suc (suc zero))))) h n₁ n₅ n₀ = absurd (n₅ refl)
-    go (suc (suc (suc (suc (suc (suc t)))))) h n₁ n₅ n₀ = absurd (omega arith)
-
 base_word : {r w : ℕ} {c : TypeCell} {τ : Ty} (seen : List ℕ) → BaseWord c w → LeafType r c τ → (words_after seen τ ≡ w ∷ []) × (appearing seen τ ≡ seen)
 unfolding spell appearing
 base_word seen h is_variable = absurd h
@@ -79,14 +64,12 @@ base_word seen h is_unit = rw h (refl, refl)
 base_word seen h is_bool = rw h (refl, refl)
 base_word seen h is_int = rw h (refl, refl)
 
-pub base_spelled : {cells : List ℕ} {numbered r : ℕ} {w : Words} → Ready cells numbered → LeafCell cells r → w ≡ words_at cells r → w.tag ≢ 0 →
-    LeafSpelled cells numbered r cells (record { word = w.tag - 1; numbered = numbered })
-base_spelled {cells} {r = r} {w = w} ready leaf e some = record {
+pub base_spelled : {cells : List ℕ} {numbered r w : ℕ} {x : TypeCell} → Ready cells numbered → LeafCell cells r → x ≡ cell_at cells r → BaseWord x w →
+    LeafSpelled cells numbered r cells (record { word = w; numbered = numbered })
+base_spelled ready leaf e base = record {
   kept = nothing_written ready;
   spelled = λ seen τ numbers d.
-      let at : cell_in w ≡ cell_at cells r = ap cell_in e in
-      let base = base_tag w (rw e (ready.sound.allowed r).tag_known) (rw at leaf.no_link) (rw at leaf.no_arrow) some in
-      let (is, same) = base_word seen base (leaf_type at leaf d) in
+      let (is, same) = base_word seen base (leaf_type e leaf d) in
       record { is = is; numbers = rw same numbers };
 }
 
@@ -149,7 +132,7 @@ module _ {cells : List ℕ} {numbered r : ℕ} (ready : Ready cells numbered) (f
 
 -- ---- Writing
 
-pub wrote_none : {cells out : List ℕ} {i left numbered : ℕ} → Ready cells numbered → left ≡ 0 → Wrote cells i out left numbered cells out (record { left = left; numbered = numbered })
+pub wrote_none : {cells out : List ℕ} {i : ℕ} {rest : Rest} → Ready cells rest.numbered → rest.left ≡ 0 → Wrote cells i out rest cells out rest
 wrote_none ready none = record {
   kept = nothing_written ready;
   no_more = omega arith;
@@ -157,46 +140,52 @@ wrote_none ready none = record {
   written = λ seen τ numbers d fits. absurd (omega (arith, size_positive τ));
 }
 
-pub leaf_wrote : {cells cells' : List ℕ} (out : List ℕ) {r left numbered : ℕ} (at : ℕ) {w : Word} → left ≢ 0 → at + left ≡ length out → LeafSpelled cells numbered r cells' w →
-    Wrote cells r out left numbered cells' (set out at w.word) (record { left = left - 1; numbered = w.numbered })
-leaf_wrote out {left = left} at some place leaf = record {
+pub leaf_wrote : {cells cells' : List ℕ} (out : List ℕ) {r : ℕ} {rest : Rest} {w : Word} → rest.left ≢ 0 → LeafSpelled cells rest.numbered r cells' w →
+    Wrote cells r out rest cells' (set out (length out - rest.left) w.word) (record { left = rest.left - 1; numbered = w.numbered })
+leaf_wrote out {rest = rest} some leaf = record {
   kept = leaf.kept;
   no_more = omega arith;
   same_length = length-set out _ _;
   written = λ seen τ numbers d fits.
       let one = leaf.spelled seen τ numbers d in
       let size_one : size τ ≡ 1 = sym (length-spell _ τ) ∙ ap length one.is in
-      let here : length out - left ≡ at = omega arith in
-      record { taken = omega arith; numbers = one.numbers; put = rw (one.is, here) refl };
+      record { taken = omega arith; numbers = one.numbers; put = rw one.is refl };
 }
 
 -- The words of a cell are its root's.
-pub root_wrote : {cells cells' out out' : List ℕ} {i r left numbered : ℕ} {rest : Rest} → Root cells i r → Wrote cells r out left numbered cells' out' rest → Wrote cells i out left numbered cells' out' rest
+pub root_wrote : {cells cells' out out' : List ℕ} {i r : ℕ} {rest rest' : Rest} → Root cells i r → Wrote cells r out rest cells' out' rest' → Wrote cells i out rest cells' out' rest'
 root_wrote root w = record { kept = w.kept; no_more = w.no_more; same_length = w.same_length; written = λ seen τ numbers d. w.written seen τ numbers (root.same τ d) }
 
-module _ {cells : List ℕ} {i r left numbered : ℕ} (some : left ≢ 0) (root : Root cells i r) where
-  module _ {x : TypeCell} {p q : ℕ} {cells₁ cells₂ out₂ out₃ : List ℕ} {first rest : Rest} (out : List ℕ) (fits : left ≤ length out) (at_root : x ≡ cell_at cells r) (arrow : x ≡ Arrow p q)
-      (wrote₁ : Wrote cells p (set out (length out - left) 4) (left - 1) numbered cells₁ out₂ first)
-      (wrote₂ : Wrote cells₁ q out₂ first.left first.numbered cells₂ out₃ rest) where
+-- An arrow's own word is the first.
+abbrev after_arrow : List ℕ → Rest → List ℕ
+after_arrow out rest = set out (length out - rest.left) 4
+
+abbrev rest_of_arrow : Rest → Rest
+rest_of_arrow rest = record { left = rest.left - 1; numbered = rest.numbered }
+
+module _ {cells : List ℕ} {i r : ℕ} {rest : Rest} (some : rest.left ≢ 0) (root : Root cells i r) where
+  module _ {x : TypeCell} {p q : ℕ} {cells₁ cells₂ out₂ out₃ : List ℕ} {rest₁ rest₂ : Rest} (out : List ℕ) (fits : rest.left ≤ length out) (at_root : x ≡ cell_at cells r) (arrow : x ≡ Arrow p q)
+      (wrote₁ : Wrote cells p (after_arrow out rest) (rest_of_arrow rest) cells₁ out₂ rest₁)
+      (wrote₂ : Wrote cells₁ q out₂ rest₁ cells₂ out₃ rest₂) where
     out_length : length out₂ ≡ length out
     out_length = wrote₁.same_length ∙ length-set out _ _
 
-    parts_put : (seen : List ℕ) (t₁ t₂ : Ty) → Numbers cells numbered seen → Ev (store_of cells) p t₁ → Ev (store_of cells) q t₂ → size (t₁ ⇒ t₂) ≤ left →
-        WordsPut seen (t₁ ⇒ t₂) left out out₃ cells₂ rest
+    parts_put : (seen : List ℕ) (t₁ t₂ : Ty) → Numbers cells rest.numbered seen → Ev (store_of cells) p t₁ → Ev (store_of cells) q t₂ → size (t₁ ⇒ t₂) ≤ rest.left →
+        WordsPut seen (t₁ ⇒ t₂) rest.left out out₃ cells₂ rest₂
     unfolding size appearing
     parts_put seen t₁ t₂ numbers d₁ d₂ enough =
         let put₁ = wrote₁.written seen t₁ numbers d₁ (omega arith) in
         let taken₁ = put₁.taken in
         let put₂ = wrote₂.written (appearing seen t₁) t₂ put₁.numbers (subst (λ σ. Ev σ q t₂) (sym wrote₁.kept.same_store) d₂) (omega arith) in
-        let next₁ : length (set out (length out - left) 4) - (left - 1) ≡ suc (length out - left) = rw length-set (omega arith) in
-        let next₂ : length out₂ - first.left ≡ suc (length out - left) + length (words_after seen t₁) = rw (out_length, length-spell) (omega arith) in
+        let next₁ : length (after_arrow out rest) - (rest.left - 1) ≡ suc (length out - rest.left) = rw length-set (omega arith) in
+        let next₂ : length out₂ - rest₁.left ≡ suc (length out - rest.left) + length (words_after seen t₁) = rw (out_length, length-spell) (omega arith) in
         record {
           taken = omega (arith, put₂.taken);
           numbers = put₂.numbers;
-          put = arrow_put out (length out - left) (words_after seen t₁) (words_after (appearing seen t₁) t₂) next₁ next₂ put₁.put put₂.put ∙ ap (sets out (length out - left)) (sym (words_arrow seen t₁ t₂));
+          put = arrow_put out (length out - rest.left) (words_after seen t₁) (words_after (appearing seen t₁) t₂) next₁ next₂ put₁.put put₂.put ∙ ap (sets out (length out - rest.left)) (sym (words_arrow seen t₁ t₂));
         }
 
-    wrote_arrow : Wrote cells i out left numbered cells₂ out₃ rest
+    wrote_arrow : Wrote cells i out rest cells₂ out₃ rest₂
     wrote_arrow = record {
       kept = record {
         ready = wrote₂.kept.ready;
@@ -213,25 +202,25 @@ module _ {cells : List ℕ} {i r left numbered : ℕ} (some : left ≢ 0) (root 
 -- ---- From part to part
 
 -- To write the current cell's type next is to write cell i₀'s, and there is room for no more words than then.
-pub record WritesOn (cells₀ : List ℕ) (i₀ : ℕ) (out₀ : List ℕ) (left₀ numbered₀ : ℕ) (cells : List ℕ) (i : ℕ) (out : List ℕ) (left numbered : ℕ) : Type 0 where
-  pub ready : Ready cells numbered
+pub record WritesOn (cells₀ : List ℕ) (i₀ : ℕ) (out₀ : List ℕ) (rest₀ : Rest) (cells : List ℕ) (i : ℕ) (out : List ℕ) (rest : Rest) : Type 0 where
+  pub ready : Ready cells rest.numbered
   pub inside : i < cells_in cells
-  pub no_more : left ≤ left₀
+  pub no_more : rest.left ≤ rest₀.left
   pub same_length : length out ≡ length out₀
-  pub fits : left ≤ length out
-  pub goes_on : {cells' out' : List ℕ} {rest : Rest} → Wrote cells i out left numbered cells' out' rest → Wrote cells₀ i₀ out₀ left₀ numbered₀ cells' out' rest
+  pub fits : rest.left ≤ length out
+  pub goes_on : {cells' out' : List ℕ} {rest' : Rest} → Wrote cells i out rest cells' out' rest' → Wrote cells₀ i₀ out₀ rest₀ cells' out' rest'
 
-pub writes_at_first : {cells out : List ℕ} {i left numbered : ℕ} → Ready cells numbered → i < cells_in cells → left ≤ length out → WritesOn cells i out left numbered cells i out left numbered
+pub writes_at_first : {cells out : List ℕ} {i : ℕ} {rest : Rest} → Ready cells rest.numbered → i < cells_in cells → rest.left ≤ length out → WritesOn cells i out rest cells i out rest
 writes_at_first ready inside enough = record { ready = ready; inside = inside; no_more = omega arith; same_length = refl; fits = enough; goes_on = λ w. w }
 
 -- At an arrow the left part is written first, and then the right part is next.
-module _ {cells₀ out₀ cells out : List ℕ} {i₀ left₀ numbered₀ i r left numbered p q : ℕ} {x : TypeCell} (w : WritesOn cells₀ i₀ out₀ left₀ numbered₀ cells i out left numbered)
-    (some : left ≢ 0) (root : Root cells i r) (at_root : x ≡ cell_at cells r) (arrow : x ≡ Arrow p q) where
-  pub left_part_ready : Ready cells numbered × (p < cells_in cells) × (left - 1 ≤ length (set out (length out - left) 4))
+module _ {cells₀ out₀ cells out : List ℕ} {i₀ i r p q : ℕ} {rest₀ rest : Rest} {x : TypeCell} (w : WritesOn cells₀ i₀ out₀ rest₀ cells i out rest)
+    (some : rest.left ≢ 0) (root : Root cells i r) (at_root : x ≡ cell_at cells r) (arrow : x ≡ Arrow p q) where
+  pub left_part_ready : Ready cells rest.numbered × (p < cells_in cells) × (rest.left - 1 ≤ length (after_arrow out rest))
   left_part_ready = (w.ready, (parts_inside w.ready.sound r at_root arrow).0, simp length-set (omega (arith, w.fits)))
 
-  pub right_part_next : {cells₁ out₁ : List ℕ} {first : Rest} → Wrote cells p (set out (length out - left) 4) (left - 1) numbered cells₁ out₁ first →
-      WritesOn cells₀ i₀ out₀ left₀ numbered₀ cells₁ q out₁ first.left first.numbered
+  pub right_part_next : {cells₁ out₁ : List ℕ} {rest₁ : Rest} → Wrote cells p (after_arrow out rest) (rest_of_arrow rest) cells₁ out₁ rest₁ →
+      WritesOn cells₀ i₀ out₀ rest₀ cells₁ q out₁ rest₁
   right_part_next {out₁ = out₁} wrote = record {
     ready = wrote.kept.ready;
     inside = rw wrote.kept.same_length (parts_inside w.ready.sound r at_root arrow).1;
@@ -262,7 +251,7 @@ module _ {cells : List ℕ} (unnumbered : Unnumbered cells) where
   none_seen = record { beside = unnumbered.none; as_many = refl }
 
   pub all_written : (out : List ℕ) {i left count : ℕ} {cells' part : List ℕ} {rest : Rest} → count + left ≡ length out →
-      Measured cells i (length out) (Some left) → Wrote cells i (take count out) count 0 cells' part rest →
+      Measured cells i (length out) (Some left) → Wrote cells i (take count out) (record { left = count; numbered = 0 }) cells' part rest →
       CellWritten cells i out (part ++ drop count out) (Some count)
   unfolding words_of
   all_written out {i} {left} {count} {part = part} split measured wrote = record { is = written }

@@ -30,12 +30,7 @@ fn leans(cells: &[u32], i: u32) -> bool
 {
     match get(cells, i) {
         TypeCell::Link(j) => is_unmarked(cells, j),
-        TypeCell::Arrow(l, r) => {
-            if is_unmarked(cells, l) {
-                return true;
-            }
-            is_unmarked(cells, r)
-        }
+        TypeCell::Arrow(l, r) => is_unmarked(cells, l) || is_unmarked(cells, r),
         _ => false,
     }
 }

@@ -15,9 +15,9 @@ ghost use Rattle.cells.specs.Interface.{Started, Sayable, Outcome, GroundTested,
 use crate::ground::{sweep, unmark};
 use crate::memory::put;
 use crate::solve::{find, say_root, solve};
-use crate::write::measure;
+use crate::write::{Rest, measure, write};
 
-// What is known of a type: nothing, that it is this cell's, that it is a base type, or that it is an arrow from the one cell's to the other's.
+// What is known of a type: nothing, that it is a cell's, that it is a base type, or that it is an arrow from the one cell's to the other's.
 #[derive(Clone, Copy)]
 pub enum TypeCell {
     Free,
@@ -31,6 +31,8 @@ pub enum TypeCell {
 // No valuation satisfies the cells and what was to be true besides.
 #[derive(Clone, Copy, Debug, PartialEq, Eq)]
 pub struct Clash;
+
+// `Sound` stands in each `requires`, and not in a type that `start` makes: `start` asks its callers for four cells, and must not ask for whole ones.
 
 // All cells are new: 0 to 3 are bool, int, int → int and int → bool, and of the others nothing is known.
 pub fn start(cells: &mut [u32])
@@ -79,6 +81,10 @@ pub fn write_type(cells: &mut [u32], i: u32, out: &mut [u32]) -> Option<usize>
     let room = out.len();
     let left = measure(cells, i, room)?;
     let count = room - left;
-    write::write(cells, &mut out[..count], i, count, 0);
+    let all = Rest {
+        left: count,
+        numbered: 0,
+    };
+    write(cells, &mut out[..count], i, all);
     Some(count)
 }

@@ -6,13 +6,13 @@ ghost use Rattle.cells.specs.Layout.{cell_at, cells_in, Sound};
 ghost use Rattle.cells.specs.Writing.{Root, Measured, Ready, LeafCell, LeafSpelled, Wrote};
 
 use crate::TypeCell;
-use crate::memory::{Pair, get, get_pair, get_words, put_pair};
+use crate::memory::{Pair, get, get_pair, put_pair};
 
-// How many words remain to be written, and how many variables have a number.
-#[derive(Drop)]
+// How many words of a slice remain to be written, and how many variables have a number.
+#[derive(Clone, Copy)]
 pub(crate) struct Rest {
-    left: usize,
-    numbered: u32,
+    pub left: usize,
+    pub numbered: u32,
 }
 
 // The one word of a base type or a variable, and how many variables have a number.
@@ -82,63 +82,53 @@ fn variable(cells: &mut [u32], r: u32, numbered: u32) -> Word
     }
 }
 
-// The word of a cell that is neither a link nor an arrow: a base type's is its tag less one. A match on the cell takes long types 1.04 times the
-// instructions.
+// The word of a cell that is neither a link nor an arrow.
 fn leaf(cells: &mut [u32], r: u32, numbered: u32) -> Word
     requires { Ready cells.old numbered × LeafCell cells.old r }
     ensures { LeafSpelled cells.old numbered r cells.new result }
 {
-    let w = get_words(cells, r);
-    if w.tag == 0 {
-        return variable(cells, r, numbered);
-    }
-    Word {
-        word: w.tag - 1,
-        numbered,
-    }
+    let word = match get(cells, r) {
+        TypeCell::UnitType => 1,
+        TypeCell::BoolType => 2,
+        TypeCell::IntType => 3,
+        _ => return variable(cells, r, numbered),
+    };
+    Word { word, numbered }
 }
 
-// The one word of such a cell at its place in `out`, of whose words `left` remain to be written.
-fn write_leaf(
-    cells: &mut [u32],
-    out: &mut [u32],
-    r: u32,
-    at: usize,
-    left: usize,
-    numbered: u32,
-) -> Rest
-    requires { Ready cells.old numbered × LeafCell cells.old r × (left ≢ 0) × (at + left ≡ length out.old) }
-    ensures { Wrote cells.old r out.old left numbered cells.new out.new result }
+// The one word of such a cell as the next of `out`.
+fn write_leaf(cells: &mut [u32], out: &mut [u32], r: u32, rest: Rest) -> Rest
+    requires { Ready cells.old rest.numbered × LeafCell cells.old r × (rest.left ≢ 0) × (rest.left ≤ length out.old) }
+    ensures { Wrote cells.old r out.old rest cells.new out.new result }
 {
-    let w = leaf(cells, r, numbered);
+    let w = leaf(cells, r, rest.numbered);
+    let at = out.len() - rest.left;
     out[at] = w.word;
     Rest {
-        left: left - 1,
+        left: rest.left - 1,
         numbered: w.numbered,
     }
 }
 
-// The words of cell i's type into `out`, of whose words `left` remain to be written.
-pub(crate) fn write(cells: &mut [u32], out: &mut [u32], i: u32, left: usize, numbered: u32) -> Rest
-    requires { Ready cells.old numbered × (i < cells_in cells.old) × (left ≤ length out.old) }
-    ensures { Wrote cells.old i out.old left numbered cells.new out.new result }
+// The words of cell i's type as the next of `out`.
+pub(crate) fn write(cells: &mut [u32], out: &mut [u32], i: u32, rest: Rest) -> Rest
+    requires { Ready cells.old rest.numbered × (i < cells_in cells.old) × (rest.left ≤ length out.old) }
+    ensures { Wrote cells.old i out.old rest cells.new out.new result }
 {
     let mut i = i;
-    let mut left = left;
-    let mut numbered = numbered;
+    let mut rest = rest;
     loop {
-        if left == 0 {
-            return Rest { left, numbered };
+        if rest.left == 0 {
+            return rest;
         }
         let r = root(cells, i);
-        let at = out.len() - left;
         let TypeCell::Arrow(first, second) = get(cells, r) else {
-            return write_leaf(cells, out, r, at, left, numbered);
+            return write_leaf(cells, out, r, rest);
         };
+        let at = out.len() - rest.left;
         out[at] = 4;
-        let rest = write(cells, out, first, left - 1, numbered);
-        left = rest.left;
-        numbered = rest.numbered;
+        rest.left -= 1;
+        rest = write(cells, out, first, rest);
         i = second;
     }
 }
