@@ -1,5 +1,5 @@
 -- The digits of a number: that the library prints them, and that they write it.
-use Rattle.std.specs.Prelude.{ℕ, zero, suc, ◌+◌, ◌/◌, ◌%◌, ◌^◌, ◌≤◌, ◌<◌, ◌≡◌, ◌≢◌, true, List, [], ◌∷◌, ◌++◌, ℤ, pos, negsuc}
+use Rattle.std.specs.Prelude.{ℕ, zero, suc, ◌+◌, ◌/◌, ◌%◌, ◌^◌, ◌≤◌, ◌<◌, ◌≡◌, ◌≢◌, true, List, [], ◌∷◌, ◌++◌, ℤ, pos, negsuc, Some}
 use Rattle.std.proofs.Common.{sym, ◌∙◌, ap, arith, lt-ltb, le-ltb, le-leb}
 use Rattle.std.proofs.lemmas.Fmt.{AppendsLastDigit, decimal_from_appends, length-decimal-le_succ}
 use Rattle.std.specs.Fmt.{decimal as printed, signed_decimal as signed_printed}
@@ -7,7 +7,6 @@ use Rattle.std.specs.Int.{w32}
 use Rattle.std.specs.Int.Signed.{mag}
 use Rattle.std.proofs.Common.{Fits, to_z, of_z}
 use Rattle.std.proofs.Math.Facts.{of_z-to_z, sfits_to_z}
-use Rattle.std.proofs.Math.Option.{some}
 use Rattle.std.proofs.Math.Decide.{dec_lt}
 use Rattle.decimal.specs.Input.{is_digit, all_digits, with_digit, value_of, word_limit, number_of}
 use Rattle.decimal.specs.TokenLaws.{all_digits_append, value_append}
@@ -87,7 +86,7 @@ decimal_writes (suc most) n h = go (dec_lt n 10) (λ l. decimal_writes most (n /
     go (no large) front = rw (more_digits n (omega arith)) (more_written (decimal (n / 10)) n (front (omega arith)))
 
 -- A printed word is read as that word.
-pub printed_is_read : (n : ℕ) → n < word_limit → number_of (decimal n) ≡ some n
+pub printed_is_read : (n : ℕ) → n < word_limit → number_of (decimal n) ≡ Some n
 printed_is_read n h =
     let written = decimal_writes (suc n) n (omega arith) in
     rw (written.digits, written.value, lt-ltb n word_limit h)

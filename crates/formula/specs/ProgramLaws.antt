@@ -1,7 +1,6 @@
 -- The program's parts together.
-use Rattle.std.specs.Prelude.{ℕ, ◌≤◌, min, ◌≡◌, refl, Result, Ok, Err, List, [], ◌∷◌, ◌++◌, length, take, replicate}
+use Rattle.std.specs.Prelude.{ℕ, ◌≤◌, min, ◌≡◌, refl, Option, Some, None, Result, Ok, Err, List, [], ◌∷◌, ◌++◌, length, take, replicate}
 use Rattle.std.proofs.Common.{sym, ◌∙◌, ap, arith}
-use Rattle.std.proofs.Math.Option.{Option, none, some}
 use Rattle.std.proofs.lemmas.List.{length-replicate}
 use Rattle.lent.specs.WrittenLaws.{written_length}
 use Rattle.lent.specs.Writing.{first_written}
@@ -78,13 +77,13 @@ two_lines_fit {t = t} blank type run =
 
 -- What is written of the text are the lines for what was found in an input.
 pub data LinesFor (words : Option (List ℕ)) (t : Text) : Type 0 where
-  the_input_line : words ≡ none → t.at ≤ length t.lent.now → take t.at t.lent.now ≡ input_line → LinesFor words t
-  table_lines : {table : List ℕ} → words ≡ some table → TwoLinesIn table t → LinesFor words t
+  the_input_line : words ≡ None → t.at ≤ length t.lent.now → take t.at t.lent.now ≡ input_line → LinesFor words t
+  table_lines : {table : List ℕ} → words ≡ Some table → TwoLinesIn table t → LinesFor words t
 
-pub table_lines_fit : (words : List ℕ) (count : ℕ) {n : ℕ} → n ≡ min count (length words) → {t : Text} → TwoLinesIn (take n words) t → LinesFor (some (take count words)) t
+pub table_lines_fit : (words : List ℕ) (count : ℕ) {n : ℕ} → n ≡ min count (length words) → {t : Text} → TwoLinesIn (take n words) t → LinesFor (Some (take count words)) t
 table_lines_fit words count within two = table_lines refl (rw (within, take_within count words) at two)
 
-pub input_line_fits : {t t' : Text} → Blank t → Puts t (input_text ++ 10 ∷ []) t' → LinesFor none t'
+pub input_line_fits : {t t' : Text} → Blank t → Puts t (input_text ++ 10 ∷ []) t' → LinesFor None t'
 unfolding spaced
 input_line_fits blank p =
     let w = rw blank.start at p.written in

@@ -42,7 +42,7 @@ fn read_piece<R: Read>(input: &mut R, s: Scanner, piece: &mut [u8], words: &mut 
     }
 }
 
-// A proved loop has to end, and nothing says that the input does: it makes more turns than a run can.
+// A proved loop has to end, and nothing says that the input does: this one has more turns than a run can take.
 pub(crate) fn read_input<R: Read>(input: &mut R, piece: &mut [u8], words: &mut [u32]) -> Turn
     requires { (1 ≤ length piece.old) × (words.old ≡ replicate 2048 0) }
     ensures { InputRead words.new result }
