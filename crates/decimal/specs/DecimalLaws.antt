@@ -1,6 +1,6 @@
 -- The digits of a number: that the library prints them, and that they write it.
-use Rattle.std.specs.Prelude.{ℕ, zero, suc, ◌+◌, ◌/◌, ◌%◌, ◌^◌, ◌≤◌, ◌<◌, ◌≡◌, ◌≢◌, true, List, [], ◌∷◌, ◌++◌, ℤ, pos, negsuc, Some}
-use Rattle.std.proofs.Common.{sym, ◌∙◌, ap, arith, lt-ltb, le-ltb, le-leb}
+use Rattle.std.specs.Prelude.{ℕ, zero, suc, ◌+◌, ◌/◌, ◌%◌, ◌^◌, ◌≤◌, ◌<◌, ◌≡◌, ◌≢◌, true, List, [], ◌∷◌, ◌++◌, length, ℤ, pos, negsuc, Some}
+use Rattle.std.proofs.Common.{sym, ◌∙◌, ap, arith, lt-ltb, le-ltb, le-leb, length-append}
 use Rattle.std.proofs.lemmas.Fmt.{AppendsLastDigit, decimal_from_appends, length-decimal-le_succ}
 use Rattle.std.specs.Fmt.{decimal as printed, signed_decimal as signed_printed}
 use Rattle.std.specs.Int.{w32}
@@ -55,6 +55,19 @@ pub printed_pattern : (p : ℕ) {z : ℤ} → Fits w32 p → z ≡ to_z w32 p �
 printed_pattern p fits is =
     let small : mag (to_z w32 p) < 2 ^ 63 = omega (arith, (sfits_to_z fits).sfits) in
     rw (is, of_z-to_z fits) (printed_integer (to_z w32 p) small)
+
+-- ---- How many
+
+few_digits : (k n : ℕ) → n < 10 ^ suc k → length (decimal n) ≤ suc k
+few_digits zero n h = rw (one_digit n h) (omega arith)
+few_digits (suc k) n h = go (dec_lt n 10) (λ l. few_digits k (n / 10) l)
+  where
+    go : Dec (n < 10) → (n / 10 < 10 ^ suc k → length (decimal (n / 10)) ≤ suc k) → length (decimal n) ≤ suc (suc k)
+    go (yes small) few = rw (one_digit n small) (omega arith)
+    go (no large) few = rw (more_digits n (omega arith), length-append) (omega (arith, few (omega arith)))
+
+pub ten_digits : (n : ℕ) → n < word_limit → length (decimal n) ≤ 10
+ten_digits n h = few_digits 9 n (omega arith)
 
 -- ---- They write the number
 

@@ -2,8 +2,9 @@
 use Rattle.std.specs.Prelude.{ℕ, zero, suc, ◌+◌, ◌≤◌, min, ◌≡◌, refl, true, false, length, take, replicate, Option, Some, None, IfSome}
 use Rattle.std.proofs.Common.{sym, ◌∙◌, ap, arith, length-append, length-take, length-take-le}
 use mathlib.Core.List.{List, [], ◌∷◌, ◌++◌, flatten, append-nil, append_assoc}
-use Rattle.decimal.specs.Scan.{ScanState, stands}
+use Rattle.decimal.specs.Scan.{ScanState, stands, slice}
 use Rattle.decimal.specs.ScanIsWordsIn.{scan_in_pieces}
+use Rattle.decimal.specs.ScanLaws.{scan_keeps_length}
 use Rattle.decimal.specs.declared.Scanner.{Scanner}
 use Rattle.decimal.specs.declared.Scanner.TheVariants.{Failed, Between, Inside}
 use Rattle.formula.specs.Reading.{NoneEmpty, no_piece, one_more, input_scanned, given_up, after_reads, ReadingEnds, at_the_end, scan_failed, read_failed, turns_used_up}
@@ -44,6 +45,13 @@ pub record ReadSoFar (made : ℕ) (words : List ℕ) (t : Turn) : Type 0 where
   pub none_empty : NoneEmpty pieces
   pub leads : stands t.at words ≡ after_reads t.got (flatten pieces)
   pub counted : {n : ℕ} → t.got ≡ Some (suc n) → length pieces ≡ made
+
+pub room_kept : {made : ℕ} {words words₀ : List ℕ} {t : Turn} → ReadSoFar made words t → words₀ ≡ replicate 2048 0 → length words ≡ length words₀
+room_kept {t = t} so_far zeros = ap (λ s. length (slice s)) so_far.leads ∙ go t.got (flatten so_far.pieces) ∙ sym (ap length zeros)
+  where
+    go : (got : Option ℕ) (input : List ℕ) → length (slice (after_reads got input)) ≡ length (replicate {A = ℕ} 2048 0)
+    go (Some n) input = scan_keeps_length (input_scanned []) input
+    go None input = scan_keeps_length (input_scanned []) input
 
 module _ {start : ScanState} {pieces : List (List ℕ)} (none_empty : NoneEmpty pieces) (from : start ≡ input_scanned (flatten pieces)) where
   pub read_more : {piece words : List ℕ} {t : Turn} → PieceRead start piece words t → ReadSoFar (length pieces + 1) words t

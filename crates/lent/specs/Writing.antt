@@ -1,8 +1,9 @@
 -- A list is written element by element.
 use Rattle.std.specs.Prelude.{ℕ, ◌+◌, ◌≤◌, ◌<◌, min, ◌≡◌, List, [], ◌∷◌, ◌++◌, length, take, drop, get_or, set}
-use Rattle.std.proofs.Common.{◌∙◌, ap, arith, add-one, zero-add, take-append-drop, take-suc, take_all, take_at}
+use Rattle.std.proofs.Common.{◌∙◌, ap, append-nil, arith, add-one, zero-add, take-append-drop, take-suc, take_all, take_at}
 use Rattle.std.proofs.Math.Decide.{dec_le}
 use Rattle.std.proofs.lemmas.List.Edits.{sets-eq}
+use Rattle.std.proofs.Math.Seq.{drop-length}
 use Rattle.lent.specs.Bytes.{overwrite}
 use Rattle.lent.specs.Written.{Written}
 use Rattle.lent.specs.WrittenLaws.{written_one, written_past, written_length, written_then}
@@ -29,6 +30,9 @@ module _ (new : List ℕ) {old now : List ℕ} {i : ℕ} (so_far : Written old 0
 -- What fits stands there whole.
 pub overwrite_fits : (new old : List ℕ) → length new ≤ length old → overwrite new old ≡ new ++ drop (length new) old
 overwrite_fits new old fits = sets-eq new old 0 (omega arith) ∙ rw zero-add
+
+pub overwrite_all : (new old : List ℕ) → length new ≡ length old → overwrite new old ≡ new
+overwrite_all new old same = overwrite_fits new old (omega arith) ∙ rw (same, drop-length) (append-nil new)
 
 pub first_written : {new old now : List ℕ} {n : ℕ} → Written old 0 new now n → length new ≤ length old → take n now ≡ new
 first_written {new} {old} {n = n} w fits =

@@ -161,9 +161,12 @@ fn lookup(words: &[u32], x: u32, k: u32) -> Option<u32>
     ensures { result ≡ first_named (node_at words.now) x (scope (node_at words.now) k) }
 {
     let mut current = k;
-    for p in (0..k as usize).rev() {
-        let Some(next) = walk_at(words, 4 * p, x, current) else {
-            return Some(p as u32);
+    // Tried as `for p in (0..k).rev()`, at word 4 * p: inference of 512 typical nodes takes 3.7 % more instructions.
+    let mut i = 4 * (k as usize);
+    while 0 < i {
+        i -= 4;
+        let Some(next) = walk_at(words, i, x, current) else {
+            return Some((i / 4) as u32);
         };
         current = next;
     }
