@@ -18,7 +18,7 @@ use crate::solve::{find, say_root, solve};
 use crate::write::{Rest, measure, write};
 
 // What is known of a type: nothing, that it is a cell's, that it is a base type, or that it is an arrow from the one cell's to the other's.
-#[derive(Clone, Copy)]
+#[derive(Clone, Copy, Debug, PartialEq, Eq)]
 pub enum TypeCell {
     Free,
     Link(u32),
@@ -32,7 +32,6 @@ pub enum TypeCell {
 #[derive(Clone, Copy, Debug, PartialEq, Eq)]
 pub struct Clash;
 
-// `Sound` stands in each `requires`, and not in a type that `start` makes: `start` asks its callers for four cells, and must not ask for whole ones.
 
 // All cells are new: 0 to 3 are bool, int, int → int and int → bool, and of the others nothing is known.
 pub fn start(cells: &mut [u32])

@@ -90,7 +90,7 @@ fn run_words(words: &[u32], fuel: u32) -> u64
     let mut frames = [0u32; 4096];
     let ran = machine::run(words, fuel, &mut bindings, &mut frames);
     let answer = ran.answer;
-    pack(answers::code(answer), answers::payload(answer))
+    pack(answer.code(), answer.payload())
 }
 
 // The run of a table: its code with its payload.

@@ -17,7 +17,7 @@ use acceptance::Refusal;
 use cells::Clash;
 
 // Why a table's formula is given no type: the first refusal in order.
-#[derive(Clone, Copy)]
+#[derive(Clone, Copy, Debug, PartialEq, Eq)]
 pub enum Untyped {
     // 1 to 4: the check refuses the table.
     Refused(Refusal),

@@ -34,7 +34,7 @@ fn run<P: Print>(to: &P, words: &[u32], fuel: u32, bindings: usize, frames: usiz
     fill(bindings, 1);
     fill(frames, 2);
     let ran = machine::run(words, fuel, bindings, frames);
-    let (code, payload) = (answers::code(ran.answer), answers::payload(ran.answer));
+    let (code, payload) = (ran.answer.code(), ran.answer.payload());
     let (steps, made) = (ran.steps, ran.bindings);
     let (bindings, frames) = (sum(bindings), sum(frames));
     let _ = println!(to; "{code} {payload} {steps} {made} {bindings} {frames}");
