@@ -22,7 +22,7 @@ def wanted(name):
 
 
 def counted(*command):
-    """What a program prints, and how many instructions it executes, on a processor without string instructions: of those the emulator
+    """What a program prints, and how many instructions it executes, on a processor of x86-64-v2 without string instructions: of those the emulator
     would count every byte. Its input is the table that was written last."""
     emulator = ["qemu-x86_64", "-cpu", "Nehalem", "-L", BUILT / "amd64", "-plugin", BUILT / "instructions.so"]
     with open(BUILT / "table") as table:

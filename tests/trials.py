@@ -15,7 +15,7 @@ def trial(call, numbers, words):
 
 def output(program, given, preload=None):
     """What a compiled program writes when it is given these bytes. It is run as it stands, or under the emulator where the machine is no
-    x86-64: as a processor without string instructions, since the emulator goes through those byte by byte."""
+    x86-64: as a processor of x86-64-v2, for which programs are built, without string instructions, since the emulator goes through those byte by byte."""
     command, environment = [program], dict(os.environ)
     if platform.machine() != "x86_64":
         command = ["qemu-x86_64", "-cpu", "Nehalem"] + (["-L", "/usr/x86_64-linux-gnu"] if os.path.isdir("/usr/x86_64-linux-gnu") else [])

@@ -114,18 +114,15 @@ module _ (words : List ℕ) where
   refused_so (for_a_parent w f s) = rw (w, from_none f, from_smallest s) (refl, refl)
   refused_so (for_a_name w f g s) = rw (w, from_none f, from_none g, from_smallest s) (refl, refl)
 
-  no_refusal_is_0 : (refusal : Refusal) → refusal_code refusal ≡ 0 → ⊥
-  no_refusal_is_0 WrongCount e = omega arith
-  no_refusal_is_0 (Misfit k) e = omega arith
-  no_refusal_is_0 (Misplaced k) e = omega arith
-  no_refusal_is_0 (Unbound k) e = omega arith
+  no_refusal_is_0 : {place : ℕ} → ¬ RefusedFor words 0 place
+  no_refusal_is_0 r = elim r [ ]
 
   pub code_0_exactly : (n : ℕ) → Numbers (check_of words) 0 n ↔ Checked words n
   code_0_exactly n = (go (check_of words) refl, λ c. rw (checked_is_accepted words n c) (refl, refl))
     where
       go : (answer : Result ℕ Refusal) → check_of words ≡ answer → Numbers answer 0 n → Checked words n
       go (Ok m) is (zero_code, same) = accepted_is_checked words n (is ∙ ap Ok same)
-      go (Err refusal) is (zero_code, same) = absurd (no_refusal_is_0 refusal zero_code)
+      go (Err refusal) is (zero_code, same) = absurd (no_refusal_is_0 (rw zero_code at (refused_for is)))
 
   pub codes_1_to_4_exactly : (code place : ℕ) → 0 < code → Numbers (check_of words) code place ↔ RefusedFor words code place
   codes_1_to_4_exactly code place some_code = (go (check_of words) refl, refused_so)

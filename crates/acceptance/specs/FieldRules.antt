@@ -1,7 +1,7 @@
 -- The rules of code 2 by columns: what each of the three fields of a node may hold, as the code asks it of one field after the other.
 use Prim.Native.Nat.{ℕ, zero, suc, ◌+◌, ◌*◌, ◌≤◌, ◌<◌}
-use Rattle.std.specs.Prelude.{◌≡◌, refl, Bool, true, false, not, cond, ◌&&◌, ◌||◌, List, [], ◌∷◌, eqb, ltb, get_or, None, Some, is_some}
-use Rattle.std.proofs.Common.{◌∙◌, sym}
+use Rattle.std.specs.Prelude.{◌≡◌, refl, ◌⊎◌, Bool, true, false, not, cond, ◌&&◌, ◌||◌, List, [], ◌∷◌, eqb, ltb, get_or, None, Some, is_some}
+use Rattle.std.proofs.Common.{◌∙◌, sym, inl, inr, ne_eqb}
 use Rattle.std.proofs.Math.Path.{ap}
 use Rattle.std.proofs.Math.Decide.{ℕ_discrete}
 use native.Mathlib.Omega.{arith}
@@ -33,7 +33,19 @@ field_fits n k kind (suc (suc f)) x = third_fits n k kind x
 
 -- ---- The rules as the code tells them apart
 
+pub an_if_or_let : (kind : ℕ) → (kind ≡ 6) ⊎ (kind ≡ 8) → (eqb kind 6 || eqb kind 8) ≡ true
+an_if_or_let kind (inl e) = rw e
+an_if_or_let kind (inr e) = rw e
+
+pub no_if_or_let : (kind : ℕ) → ((kind ≡ 6) ⊎ (kind ≡ 8) → ⊥) → (eqb kind 6 || eqb kind 8) ≡ false
+no_if_or_let kind h = rw (ne_eqb kind 6 (λ e. h (inl e)), ne_eqb kind 8 (λ e. h (inr e)))
+
 module _ (n k kind x : ℕ) where
+  pub field_is_third : (f : ℕ) → (f ≡ 0 → ⊥) → (f ≡ 1 → ⊥) → field_fits n k kind f x ≡ third_fits n k kind x
+  field_is_third zero not0 not1 = absurd (not0 refl)
+  field_is_third (suc zero) not0 not1 = absurd (not1 refl)
+  field_is_third (suc (suc f)) not0 not1 = refl
+
   pub first_is_child : 5 ≤ kind → kind < 7 → first_fits n k kind x ≡ is_child n k x
   unfolding first_fits
   first_is_child low high = go (ℕ_discrete kind 5)

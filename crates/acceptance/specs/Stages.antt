@@ -1,11 +1,12 @@
 -- The check in stages, as the code makes it: each stage refuses, and that is the answer, or hands the count on to the next.
-use Rattle.std.specs.Prelude.{ℕ, ◌<◌, ◌≡◌, refl, true, not, List, length, Option, None, Some, Result, Ok, Err, IsErrAnd}
+use Rattle.std.specs.Prelude.{ℕ, ◌*◌, ◌≤◌, ◌<◌, ◌≡◌, refl, Bool, true, false, cond, not, List, length, Option, None, Some, Result, Ok, Err, IsErrAnd}
 use Rattle.std.proofs.Common.{sym, ◌∙◌, arith}
 use Rattle.std.proofs.Math.Path.{ap}
 use Rattle.std.proofs.lemmas.Bool.{not-false}
 use Rattle.std.proofs.lemmas.Result.{err_from_is_err_and}
 use Rattle.table.specs.Node.{node_at, count_of}
-use Rattle.acceptance.specs.Refusals.{miscount, fits, misplaced, unbound, first_from, refuse_at, check_nodes, check_of}
+use Rattle.acceptance.specs.Accepted.{right_count}
+use Rattle.acceptance.specs.Refusals.{wrong_count, miscount, fits, misplaced, unbound, first_from, refuse_at, check_nodes, check_of}
 use Rattle.acceptance.specs.Counting.{misplaced_below}
 use Rattle.acceptance.specs.FirstFrom.{first_none}
 use Rattle.acceptance.specs.Parents.{misplaced_as_below}
@@ -36,6 +37,16 @@ module _ (words : List ℕ) where
   pub count_halts : {r : Result ℕ Refusal} {e : Refusal} → r ≡ counted → r ≡ Err e → Err e ≡ check_of words
   unfolding check_of
   count_halts is e = halts (λ place. WrongCount) (miscount (length words)) (count_of words) (check_nodes words (node_at words) (count_of words)) is e
+
+  right_words : (wrong : Bool) → cond {A = Option ℕ} wrong (Some 0) None ≡ None → wrong ≡ false
+  right_words true e = absurd (let z : ◌≡◌ {A = ℕ} 0 1 = cc in omega arith)
+  right_words false e = refl
+
+  pub counted_nodes : {r : Result ℕ Refusal} {n : ℕ} → r ≡ counted → r ≡ Ok n → (4 * n ≤ length words) × (0 < n)
+  counted_nodes is e =
+      let (right, same) = passes (λ place. WrongCount) (miscount (length words)) (count_of words) is e in
+      let (whole, some_nodes, few) = right_count (length words) (right_words (wrong_count (length words)) right) in
+      omega arith
 
   pub after_count : {r : Result ℕ Refusal} {n : ℕ} → r ≡ counted → r ≡ Ok n → check_of words ≡ check_nodes words (node_at words) n
   unfolding check_of

@@ -49,7 +49,7 @@ impl Refusal {
     }
 }
 
-// The node count, or code 1.
+// The node count, or `WrongCount`.
 fn count(words: &[u32]) -> Result<u32, Refusal>
     ensures { result ≡ refuse_at (λ place. Refusal.WrongCount) (miscount (length words.now)) (Ok (count_of words.now)) }
 {

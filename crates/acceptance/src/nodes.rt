@@ -25,7 +25,7 @@ impl Nodes<'_> {
         table::node_at(self.words, k)
     }
 
-    // Codes 3 and 4 of nodes that keep the rules of their kinds, or the node count.
+    // The node count of nodes that keep the rules of their kinds, or `Misplaced` or `Unbound`.
     fn check_tree(&self) -> Result<u32, Refusal>
         ensures { result ≡ check_tree self.now.words.now self.now.count }
     {
@@ -33,7 +33,7 @@ impl Nodes<'_> {
         self.names()
     }
 
-    // Codes 2 to 4, or the node count.
+    // The node count, or any refusal of a node.
     pub(crate) fn check(&self) -> Result<u32, Refusal>
         ensures { result ≡ check_nodes self.now.words.now (node_at self.now.words.now) self.now.count }
     {

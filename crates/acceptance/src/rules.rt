@@ -71,7 +71,7 @@ impl Rule {
         }
     }
 
-    // The rule of field f: 0 is a, 1 is b, 2 is c.
+    // The rule of field f: 0 is a, 1 is b, 2 is c, since the scan of the fields is a loop (docs/DECISIONS.md, "Forms").
     fn field_fits(self, f: usize, x: u32) -> bool
         ensures { result ≡ field_fits self.n self.k self.kind f x }
     {

@@ -5,7 +5,7 @@ ghost use Rattle.cells.specs.Interface.{GroundTested};
 ghost use Rattle.cells.specs.Grounding.{unmarked, UnmarkedBelow, Unmarked, Marking, MarkingAt, LeansOrEvaluates, Progress};
 
 use crate::TypeCell;
-use crate::memory::{Pair, get, put_pair};
+use crate::memory::{Pair, get, get_pair, put_pair};
 
 pub(crate) fn unmark(cells: &mut [u32], n: u32)
     requires { Sound cells.old × (length cells.old ≡ 5 * n) }
@@ -20,7 +20,8 @@ fn is_unmarked(cells: &[u32], i: u32) -> bool
     requires { i < cells_in cells.now }
     ensures { result ≡ unmarked cells.now i }
 {
-    cells[5 * (i as usize) + 3] == 0
+    // A mark is 0 or 1: it is a word of lent memory.
+    get_pair(cells, i).left == 0
 }
 
 // Does cell i lean on an unmarked cell?
@@ -35,7 +36,7 @@ fn leans(cells: &[u32], i: u32) -> bool
     }
 }
 
-// Marks cell i unless it is marked or leans on an unmarked cell. Answers how many cells it marked.
+// Marks cell i unless it is marked or leans on an unmarked cell. Answers how many cells it marked, and no flag: `pass` adds them up.
 fn visit(cells: &mut [u32], i: u32) -> u32
     requires { MarkingAt cells.old i }
     ensures { Progress (λ j. j ≡ i) cells.old cells.new result }
@@ -55,7 +56,7 @@ fn pass(cells: &mut [u32], n: u32) -> u32
     requires { Marking cells.old × (length cells.old ≡ 5 * n) }
     ensures { Progress (λ j. j < n) cells.old cells.new result }
 {
-    let mut new: u32 = 0;
+    let mut new = 0;
     for i in 0..n {
         let up = visit(cells, i);
         let down = visit(cells, n - 1 - i);

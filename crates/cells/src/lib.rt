@@ -32,8 +32,8 @@ pub enum TypeCell {
 #[derive(Clone, Copy, Debug, PartialEq, Eq)]
 pub struct Clash;
 
-
-// All cells are new: 0 to 3 are bool, int, int → int and int → bool, and of the others nothing is known.
+// All cells are new: 0 to 3 are bool, int, int → int and int → bool, and of the others nothing is known. No type carries `Sound` from here on: to make
+// one, this would have to ask its callers for whole cells, 4,096 at most, which it does not.
 pub fn start(cells: &mut [u32])
     requires { 3 < cells_in cells.old }
     ensures { Started cells.old cells.new }

@@ -6,7 +6,7 @@ ghost use Rattle.cells.specs.Puts.{CellPut, PairPut};
 use crate::TypeCell;
 
 // A cell as it stands in memory: a tag and the cells that it names. Tag 0 is a free cell, 1 a link, 2 to 4 are unit, bool and int, and 5 is
-// an arrow. Words that a cell has no use for are 0 where it is written, and of no account where it is read.
+// an arrow: numbers, since callers lend words. Words that a cell has no use for are 0 where it is written, and of no account where it is read.
 #[derive(Clone, Copy)]
 pub(crate) struct Words {
     pub tag: u32,
@@ -45,7 +45,7 @@ impl From<TypeCell> for Words {
 }
 
 // Beside a cell: a pending pair of cells for the solver, a mark and a variable's number for what comes after it.
-#[derive(Drop)]
+#[derive(Clone, Copy)]
 pub(crate) struct Pair {
     pub left: u32,
     pub right: u32,

@@ -9,7 +9,7 @@ use crate::memory::{Pair, Words, get, get_pair, get_words, put, put_pair, put_wo
 use crate::{Clash, TypeCell};
 
 // The parts of two arrows that meet: the left ones are to be equal, and the right ones.
-#[derive(Drop)]
+#[derive(Clone, Copy)]
 pub(crate) struct Parts {
     left: Pair,
     right: Pair,
@@ -33,8 +33,8 @@ pub(crate) fn find(cells: &mut [u32], i: u32) -> u32
     }
 }
 
-// The parts of two arrows that are to be equal, and none of the same base type.
-// Cells meet as words and tags, and are not matched on: that takes the solver 1.4 times the instructions.
+// The parts of two arrows that are to be equal; `None` where both are the same base type. Here and below cells are compared by their words, since a
+// match on two cells takes the solver up to 1.57 times the instructions.
 fn arrow_parts(one: Words, other: Words) -> Option<Parts>
     requires { Alike one other }
     ensures { PartsOf (cell_in one) (cell_in other) result }

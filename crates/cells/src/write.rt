@@ -16,7 +16,7 @@ pub(crate) struct Rest {
 }
 
 // The one word of a base type or a variable, and how many variables have a number.
-#[derive(Drop)]
+#[derive(Clone, Copy)]
 struct Word {
     word: u32,
     numbered: u32,
@@ -35,12 +35,10 @@ fn root(cells: &[u32], i: u32) -> u32
 }
 
 // What is left of the room after the words of cell i's type, if it has no more.
-pub(crate) fn measure(cells: &[u32], i: u32, room: usize) -> Option<usize>
+pub(crate) fn measure(cells: &[u32], mut i: u32, mut room: usize) -> Option<usize>
     requires { Sound cells.now × (i < cells_in cells.now) }
     ensures { Measured cells.now i room result }
 {
-    let mut i = i;
-    let mut room = room;
     loop {
         if room == 0 {
             return None;
@@ -60,6 +58,7 @@ fn variable(cells: &mut [u32], r: u32, numbered: u32) -> Word
     ensures { LeafSpelled cells.old numbered r cells.new result }
 {
     let p = get_pair(cells, r);
+    // 0 for none: it is a word of lent memory.
     let number = p.right;
     if number != 0 {
         return Word {

@@ -1,10 +1,13 @@
 -- What is put into a text, one after the other.
-use Rattle.std.specs.Prelude.{ℕ, suc, ◌+◌, ◌*◌, ◌≤◌, ◌<◌, ◌≡◌, refl, List, [], ◌∷◌, ◌++◌, map, length, take, get_or, pos}
-use Rattle.std.proofs.Common.{sym, ◌∙◌, ap, subst, append-nil, append_assoc, arith, add-one, take-suc, take_all, to_z, lt-ltb}
+use Rattle.std.specs.Prelude.{ℕ, suc, ◌+◌, ◌-◌, ◌*◌, ◌/◌, ◌%◌, ◌≤◌, ◌<◌, ◌≡◌, refl, List, [], ◌∷◌, ◌++◌, map, length, take, get_or, pos}
+use Rattle.std.proofs.Common.{sym, ◌∙◌, ap, subst, append-nil, append_assoc, arith, add-one, take-suc, take_all, to_z, lt-ltb, le-ltb}
 use Rattle.std.proofs.lemmas.List.{map-append}
 use Rattle.std.specs.Int.{w32}
+use Rattle.lent.specs.Written.{Written, WrittenWithin}
 use Rattle.lent.specs.WrittenLaws.{written_none, written_then, within_itself, within_more, within_then}
-use Rattle.decimal.specs.Decimal.{decimal, spaced}
+use Rattle.decimal.specs.Input.{word_limit}
+use Rattle.decimal.specs.Decimal.{digit_byte, decimal, signed_decimal, spaced}
+use Rattle.decimal.specs.DecimalLaws.{one_digit, more_digits, ten_digits}
 use Rattle.decimal.specs.Puts.{Puts, PutsWithin}
 use Rattle.decimal.specs.declared.text.Text.{Text}
 
@@ -33,11 +36,34 @@ puts_within_then p q = record { same = q.same ∙ p.same; written = within_then 
 pub bytes_more : (bytes : List ℕ) {t t₁ t₂ : Text} {i : ℕ} → Puts t (take i bytes) t₁ → i < length bytes → Puts t₁ (get_or bytes i 0 ∷ []) t₂ → Puts t (take (i + 1) bytes) t₂
 bytes_more bytes {i = i} so_far below one = rw (add-one, take-suc bytes i 0 below) (puts_then so_far one)
 
+-- ---- Digits, one after the other
+
+module _ {n : ℕ} (below : n < word_limit) where
+  pub one_written : {text text' : List ℕ} {at next : ℕ} → n < 10 → Written text at (digit_byte (n % 10) ∷ []) text' next → WrittenWithin 10 text at (decimal n) text' next
+  one_written small w = let same : n % 10 ≡ n = omega arith in record { written = rw (one_digit n small) (rw same at w); few = ten_digits n below }
+
+  pub last_written : {text text₁ text₂ : List ℕ} {at at₁ at₂ : ℕ} → 10 ≤ n → WrittenWithin 10 text at (decimal (n / 10)) text₁ at₁ → Written text₁ at₁ (digit_byte (n % 10) ∷ []) text₂ at₂ →
+      WrittenWithin 10 text at (decimal n) text₂ at₂
+  last_written large front last = record { written = rw (more_digits n large) (written_then front.written last); few = ten_digits n below }
+
+pub after_byte : {b most : ℕ} {bytes text text₁ text₂ : List ℕ} {at at₁ at₂ : ℕ} → Written text at (b ∷ []) text₁ at₁ → WrittenWithin most text₁ at₁ bytes text₂ at₂ → WrittenWithin (suc most) text at (b ∷ bytes) text₂ at₂
+after_byte one w = record { written = written_then one w.written; few = omega (arith, w.few) }
+
 -- ---- An integer
 
 -- A pattern below 2147483648 is no negative integer's.
 pub not_negative : (p : ℕ) → p < 2147483648 → to_z w32 p ≡ pos p
 not_negative p small = rw (lt-ltb p 2147483648 small)
+
+module _ (p : ℕ) where
+  pub plain_written : {text text' : List ℕ} {at next : ℕ} → p < 2147483648 → WrittenWithin 10 text at (decimal p) text' next → WrittenWithin 11 text at (signed_decimal (to_z w32 p)) text' next
+  plain_written small w = rw (not_negative p small) (record { written = w.written; few = omega (arith, w.few) })
+
+  pub negative_written : {text text₁ text₂ : List ℕ} {at at₁ at₂ : ℕ} → 2147483648 ≤ p → p < word_limit → Written text at (45 ∷ []) text₁ at₁ →
+      WrittenWithin 10 text₁ at₁ (decimal (4294967295 - p + 1)) text₂ at₂ → WrittenWithin 11 text at (signed_decimal (to_z w32 p)) text₂ at₂
+  negative_written large below sign w =
+      let same : suc (4294967296 - suc p) ≡ 4294967295 - p + 1 = omega arith in
+      rw (le-ltb p 2147483648 large, same) (after_byte sign w)
 
 -- ---- A space and each number
 

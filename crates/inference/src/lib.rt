@@ -105,7 +105,7 @@ fn with_work(words: &[u32], n: u32, work: &mut [u32], out: &mut [u32]) -> Result
     inferred
 }
 
-// The answer for a checked table of n nodes: 5 where the work slice is too short, else its type.
+// The answer for a checked table of n nodes: `WorkTooShort`, or that of its tree.
 fn accepted(words: &[u32], n: u32, work: &mut [u32], out: &mut [u32]) -> Result<usize, Untyped>
     requires { check_of words.now ≡ Ok n }
     ensures { Infers words.now work.old out.old (leaves result work.new out.new) }
@@ -117,8 +117,8 @@ fn accepted(words: &[u32], n: u32, work: &mut [u32], out: &mut [u32]) -> Result<
     with_work(words, n, &mut work[..size], out)
 }
 
-// The inference of a table: the word count of its most general type, which is then written at the beginning of `out`, or the refusal of its
-// check, 5, 6 or 7. Codes 1 to 5 change no lent word; otherwise the first 24 × nodes + 16 words of `work` are zero afterwards. `out` is written
+// The inference of a table: the word count of its most general type, which is then written at the beginning of `out`, or why there is none.
+// Codes 1 to 5 change no lent word; otherwise the first 24 × nodes + 16 words of `work` are zero afterwards. `out` is written
 // where there is a type that fits, and no word after the type.
 pub fn infer(words: &[u32], work: &mut [u32], out: &mut [u32]) -> Result<usize, Untyped>
     ensures { Infers words.now work.old out.old (leaves result work.new out.new) }

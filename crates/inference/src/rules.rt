@@ -9,6 +9,8 @@ ghost use Rattle.inference.specs.TableCells.{type_cell, name_cell, gives_cell, H
 
 use cells::{Clash, TypeCell, join, say};
 
+// `Sound` and `HasNode` stand in each `requires`, as `Sound` does in `cells`: see `cells::start`.
+
 // The cell of node k's type.
 fn type_cell(k: u32) -> u32
     requires { name_cell k < 4096 }
@@ -164,7 +166,7 @@ fn node(words: &[u32], cells: &mut [u32], k: u32) -> Result<(), Clash>
     }
 }
 
-// The equations of all nodes, one after the other: can they be solved without a clash?
+// The equations of all nodes, one after the other, or a clash.
 pub(crate) fn nodes(words: &[u32], cells: &mut [u32], n: u32) -> Result<(), Clash>
     requires { NodesReady words.now n cells.old }
     ensures { Outcome cells.old cells.new (NodesSolved words.now n) result }

@@ -15,6 +15,7 @@ pub fn clear(store: &mut [u32])
 pub fn read_words(bytes: &[u8], words: &mut [u32])
     ensures { words.new ≡ overwrite (from_bytes bytes.now) words.old }
 {
+    // By index: after a loop over `iter_mut` a proof knows no element of `words`.
     let (quads, _) = bytes.as_chunks::<4>();
     for i in 0..quads.len().min(words.len()) {
         words[i] = u32::from_le_bytes(quads[i]);
@@ -25,6 +26,7 @@ pub fn read_words(bytes: &[u8], words: &mut [u32])
 pub fn write_bytes(words: &[u32], bytes: &mut [u8])
     ensures { bytes.new ≡ overwrite (to_bytes words.now) bytes.old }
 {
+    // Byte by byte, and not word by word: the last word may fit in part, which would be a rule of its own.
     for i in 0..bytes.len().min(4 * words.len()) {
         bytes[i] = words[i / 4].to_le_bytes()[i % 4];
     }

@@ -3,6 +3,7 @@ pub mod Promises
 -- Definitions.
 pub mod Runs
 pub mod Executing
+pub mod Clearing
 pub mod CodeTells
 pub mod CallReaches
 pub mod RunCall

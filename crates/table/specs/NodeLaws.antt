@@ -9,7 +9,7 @@ use Rattle.table.specs.Scope.{binds_in, is_named, name_of}
 use Rattle.table.specs.Asked.{words_at}
 use Rattle.table.specs.Reading.{node_in, node_from, met_in, met, above_if, binding_if, let_met}
 use Rattle.table.specs.declared.NodeWords.{NodeWords}
-use Rattle.table.specs.declared.binders.Met.TheVariants.{Elsewhere}
+use Rattle.table.specs.declared.binders.Met.TheVariants.{Elsewhere, Above}
 
 -- ---- Nodes by their kind
 
@@ -89,6 +89,16 @@ module _ (kind a b c k : ℕ) (x : Name) where
 
 -- By the kind, as the code tells kinds apart.
 pub ruleset met_by_kind = (application_met, if_met, lambda_or_rec_met, let_met_lem, others_met)
+
+-- What holds the child decides, whatever is looked at before it.
+pub second_holds : (p s : Bool) → above_if p true s ≡ Above
+second_holds true s = refl
+second_holds false s = refl
+
+pub third_holds : (p q : Bool) → above_if p q true ≡ Above
+third_holds true q = refl
+third_holds false true = refl
+third_holds false false = refl
 
 -- ---- Nodes that the walk in search of a binder passes
 

@@ -9,7 +9,7 @@ ghost use Rattle.table.specs.NodeLaws.{Passed};
 use crate::nodes::node_at;
 
 // A node that the walk in search of a binder meets.
-#[derive(Drop)]
+#[derive(Clone, Copy)]
 enum Met {
     // It is no parent of the current node.
     Elsewhere,
@@ -30,6 +30,7 @@ struct Step<'a> {
     ghost inside: { i + 4 ≤ length words.now },
 }
 
+// Four readers and no number of a field: a rule reads its field by name.
 impl Step<'_> {
     fn kind(&self) -> u32
         ensures { let s = self.now in result ≡ word_at s.words.now s.i }
@@ -161,7 +162,7 @@ fn lookup(words: &[u32], x: u32, k: u32) -> Option<u32>
     ensures { result ≡ first_named (node_at words.now) x (scope (node_at words.now) k) }
 {
     let mut current = k;
-    // Tried as `for p in (0..k).rev()`, at word 4 * p: inference of 512 typical nodes takes 3.7 % more instructions.
+    // Tried as `for p in (0..k).rev()`, at word 4 * p: inference of 512 typical nodes takes 3.7 % more instructions, and 3 % are allowed.
     let mut i = 4 * (k as usize);
     while 0 < i {
         i -= 4;

@@ -7,7 +7,7 @@ mod nodes;
 pub use binders::{binder, walk_at};
 pub use nodes::{node_at, read};
 
-// The four words of a node.
+// The four words of a node. The kind is a word and no enum: `read` answers for every table, and the check and the machine match on it.
 #[derive(Clone, Copy, Debug, PartialEq, Eq)]
 pub struct NodeWords {
     pub kind: u32,

@@ -1,6 +1,9 @@
 // The three calls, each with its line.
 use crate::stores::{fill, sum};
 
+// No slice that is lent is longer.
+const MOST: usize = 33000;
+
 // A call with what it is lent beside the table: fuel, and lengths of slices.
 #[derive(Clone, Copy)]
 pub(crate) enum Call {
@@ -27,8 +30,8 @@ fn check<P: Print>(to: &P, words: &[u32]) {
 
 // Code, payload, steps, bindings, and the sums of both stores afterwards.
 fn run<P: Print>(to: &P, words: &[u32], fuel: u32, bindings: usize, frames: usize) -> Option<()> {
-    let mut bindings_room = [0u32; 33000];
-    let mut frames_room = [0u32; 33000];
+    let mut bindings_room = [0u32; MOST];
+    let mut frames_room = [0u32; MOST];
     let bindings = bindings_room.get_mut(..bindings)?;
     let frames = frames_room.get_mut(..frames)?;
     fill(bindings, 1);
@@ -43,8 +46,8 @@ fn run<P: Print>(to: &P, words: &[u32], fuel: u32, bindings: usize, frames: usiz
 
 // Code and place, and the sums of work and out afterwards.
 fn infer<P: Print>(to: &P, words: &[u32], work: usize, out: usize) -> Option<()> {
-    let mut work_room = [0u32; 33000];
-    let mut out_room = [0u32; 33000];
+    let mut work_room = [0u32; MOST];
+    let mut out_room = [0u32; MOST];
     let work = work_room.get_mut(..work)?;
     let out = out_room.get_mut(..out)?;
     fill(work, 1);
