@@ -24,7 +24,7 @@ def wanted(name):
 def counted(*command):
     """What a program prints, and how many instructions it executes, on a processor without string instructions: of those the emulator
     would count every byte. Its input is the table that was written last."""
-    emulator = ["qemu-x86_64", "-cpu", "qemu64", "-L", BUILT / "amd64", "-plugin", BUILT / "instructions.so"]
+    emulator = ["qemu-x86_64", "-cpu", "Nehalem", "-L", BUILT / "amd64", "-plugin", BUILT / "instructions.so"]
     with open(BUILT / "table") as table:
         done = subprocess.run(emulator + list(map(str, command)), stdin=table, capture_output=True, text=True)
     assert done.returncode == 0, (command, done)

@@ -111,9 +111,18 @@ def parts_in(page):
 assert parts_in("| `a::b` | x |\n### Parts\n| `c::d` | x |\n## More\n| `e::f` | x |\n") == {"c::d"}
 
 
+def is_called_in(crate, function, source):
+    """By its path, or as a method where the source names the crate."""
+    by_path = re.search(r"\b%s::(?:\{[^}]*)?\b%s\b" % (crate, function), source)
+    return by_path or re.search(r"\b%s::" % crate, source) and re.search(r"\.%s\(" % function, source)
+
+
+assert is_called_in("a", "b", "use a::{c, b};") and is_called_in("a", "b", "use a::T; t.b(1)") and not is_called_in("a", "b", "use a::T; t.c(b)")
+
+
 def is_called_elsewhere(crate, function):
     others = [path for path in glob.glob("crates/*/src/**/*.rt", recursive=True) if path.split(os.sep)[1] != crate]
-    return any(re.search(r"\b%s::(?:\{[^}]*)?\b%s\b" % (crate, function), bare(open(path, encoding="utf-8").read())) for path in others)
+    return any(is_called_in(crate, function, bare(open(path, encoding="utf-8").read())) for path in others)
 
 
 def faults_of(path, function, kinds, row, is_part):

@@ -18,7 +18,7 @@ def output(program, given, preload=None):
     x86-64: as a processor without string instructions, since the emulator goes through those byte by byte."""
     command, environment = [program], dict(os.environ)
     if platform.machine() != "x86_64":
-        command = ["qemu-x86_64", "-cpu", "qemu64"] + (["-L", "/usr/x86_64-linux-gnu"] if os.path.isdir("/usr/x86_64-linux-gnu") else [])
+        command = ["qemu-x86_64", "-cpu", "Nehalem"] + (["-L", "/usr/x86_64-linux-gnu"] if os.path.isdir("/usr/x86_64-linux-gnu") else [])
         command += (["-E", "LD_PRELOAD=" + preload] if preload else []) + [program]
     elif preload:
         environment["LD_PRELOAD"] = preload

@@ -1,6 +1,6 @@
 -- What is proved of the check, in one place. Each promise is restated here over the definitions alone; the file that proves it is the one
 -- that its proof cites. That the code's `check` is `check_of` stands in its contract (src/lib.rt).
-use Rattle.std.specs.Prelude.{ℕ, ◌<◌, ◌≡◌, ◌↔◌, List}
+use Rattle.std.specs.Prelude.{ℕ, ◌<◌, ◌≡◌, ◌↔◌, List, Ok}
 use Rattle.language.specs.Expression.{Closed}
 use Rattle.table.specs.ExpressionOf.{exp_of}
 use Rattle.acceptance.specs.Refusals.{check_of, check_code, check_place}
@@ -8,12 +8,11 @@ use Rattle.acceptance.specs.RefusedFor.{RefusedFor}
 use Rattle.acceptance.specs.Checked.{Checked}
 use Rattle.acceptance.specs.Accepted as Accepted
 use Rattle.acceptance.proofs.RefusalsExactly as RefusalsExactly
-use Rattle.acceptance.specs.declared.Verdict.TheVariants.{Accepted as Accepts}
 
 -- ---- What the codes mean
 
 -- The check accepts a table with n nodes exactly if its length, its fields, its tree and its names are in order.
-accepts_exactly_checked : (words : List ℕ) (n : ℕ) → (check_of words ≡ Accepts n) ↔ Checked words n
+accepts_exactly_checked : (words : List ℕ) (n : ℕ) → (check_of words ≡ Ok n) ↔ Checked words n
 accepts_exactly_checked words n = (Accepted.accepted_is_checked words n, Accepted.checked_is_accepted words n)
 
 -- The same as numbers: code 0, with the node count as its place.

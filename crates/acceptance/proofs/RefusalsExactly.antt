@@ -2,18 +2,17 @@
 use Prim.Native.Nat.{ℕ, zero, suc, ◌+◌, ◌≤◌, ◌<◌}
 use Rattle.std.proofs.Math.Path.{◌≡◌, refl, sym}
 use Rattle.std.proofs.Common.{◌∙◌, ap, arith}
-use Rattle.std.specs.Prelude.{◌↔◌, Bool, cond, List, length}
+use Rattle.std.specs.Prelude.{◌↔◌, Bool, cond, List, length, Option, None, Some, Result, Ok, Err}
 use Rattle.std.proofs.Math.Bool.{true, false}
-use Rattle.std.proofs.Math.Option.{Option, none, some}
 use Rattle.std.proofs.Math.Decide.{ℕ_discrete}
 use Rattle.table.specs.Node.{count_of}
-use Rattle.acceptance.specs.Refusals.{wrong_count, first_from, refuse_at, check_of, check_code, check_place}
+use Rattle.acceptance.specs.Refusals.{wrong_count, first_from, refuse_at, check_of, refusal_code, refusal_place, check_code, check_place}
 use Rattle.acceptance.specs.RefusedFor.{Smallest, FindsNone, breaks_rule, is_misplaced, is_unbound, RefusedFor, for_its_count, for_a_rule, for_a_parent, for_a_name}
 use Rattle.acceptance.specs.Checked.{Checked}
 use Rattle.acceptance.specs.Accepted.{accepted_is_checked, checked_is_accepted}
 use Rattle.acceptance.specs.FirstFrom.{first_here, first_next, first_none, none_first}
-use Rattle.acceptance.specs.declared.Verdict.{Verdict}
-use Rattle.acceptance.specs.declared.Verdict.TheVariants.{Accepted, Refused}
+use Rattle.acceptance.specs.declared.Refusal.{Refusal}
+use Rattle.acceptance.specs.declared.Refusal.TheVariants.{WrongCount, Misfit, Misplaced, Unbound}
 
 -- ---- The smallest node that a test finds
 
@@ -35,41 +34,41 @@ module _ {bad : ℕ → Bool} where
       go j l h (yes q) = rw (← q) here
       go j l h (no q) = s.first j (omega arith) h
 
-  found_is_smallest : (count at : ℕ) {k : ℕ} → first_from bad count at ≡ some k → SmallestFrom bad count at k
+  found_is_smallest : (count at : ℕ) {k : ℕ} → first_from bad count at ≡ Some k → SmallestFrom bad count at k
   unfolding first_from
   found_is_smallest zero at e = absurd (let z : ◌≡◌ {A = ℕ} 0 1 = cc in omega arith)
   found_is_smallest (suc count) at {k} e = go (bad at) refl (λ later. found_is_smallest count (suc at) later)
     where
-      go : (b : Bool) → bad at ≡ b → (first_from bad count (suc at) ≡ some k → SmallestFrom bad count (suc at) k) → SmallestFrom bad (suc count) at k
+      go : (b : Bool) → bad at ≡ b → (first_from bad count (suc at) ≡ Some k → SmallestFrom bad count (suc at) k) → SmallestFrom bad (suc count) at k
       go true here later =
-          let both : some at ≡ some k = sym (first_here bad count at here) ∙ e in
+          let both : Some at ≡ Some k = sym (first_here bad count at here) ∙ e in
           found_here count at here (cc)
       go false here later = found_later here (later (sym (first_next bad count at here) ∙ e))
 
-  smallest_is_found : (count at : ℕ) {k : ℕ} → SmallestFrom bad count at k → first_from bad count at ≡ some k
+  smallest_is_found : (count at : ℕ) {k : ℕ} → SmallestFrom bad count at k → first_from bad count at ≡ Some k
   smallest_is_found zero at s = absurd (omega (arith, s.low, s.high))
   smallest_is_found (suc count) at {k} s = go (ℕ_discrete at k) (λ later. smallest_is_found count (suc at) later)
     where
-      go : Dec (at ≡ k) → (SmallestFrom bad count (suc at) k → first_from bad count (suc at) ≡ some k) → first_from bad (suc count) at ≡ some k
-      go (yes q) later = first_here bad count at (rw q s.found) ∙ ap some q
+      go : Dec (at ≡ k) → (SmallestFrom bad count (suc at) k → first_from bad count (suc at) ≡ Some k) → first_from bad (suc count) at ≡ Some k
+      go (yes q) later = first_here bad count at (rw q s.found) ∙ ap Some q
       go (no q) later =
           let low = s.low in
           let high = s.high in
           let rest : SmallestFrom bad count (suc at) k = record { low = omega arith; high = omega arith; found = s.found; first = λ j l h. s.first j (omega arith) h } in
           first_next bad count at (s.first at (omega arith) (omega arith)) ∙ later rest
 
-  to_smallest : {n k : ℕ} → first_from bad n 0 ≡ some k → Smallest bad n k
+  to_smallest : {n k : ℕ} → first_from bad n 0 ≡ Some k → Smallest bad n k
   to_smallest {n} e =
       let s = found_is_smallest n 0 e in
       record { inside = omega (arith, s.high); found = s.found; first = λ j h. s.first j (omega arith) h }
 
-  from_smallest : {n k : ℕ} → Smallest bad n k → first_from bad n 0 ≡ some k
+  from_smallest : {n k : ℕ} → Smallest bad n k → first_from bad n 0 ≡ Some k
   from_smallest {n} s = smallest_is_found n 0 (record { low = omega arith; high = omega (arith, s.inside); found = s.found; first = λ j l h. s.first j h })
 
-  to_none : {n : ℕ} → first_from bad n 0 ≡ none → FindsNone bad n
+  to_none : {n : ℕ} → first_from bad n 0 ≡ None → FindsNone bad n
   to_none {n} e = record { passed = λ k h. first_none bad n 0 e k (omega arith) (omega arith) }
 
-  from_none : {n : ℕ} → FindsNone bad n → first_from bad n 0 ≡ none
+  from_none : {n : ℕ} → FindsNone bad n → first_from bad n 0 ≡ None
   from_none {n} f = none_first bad n 0 (λ k l h. f.passed k (omega arith))
 
 -- ---- The refusals in their order
@@ -84,49 +83,53 @@ module _ (words : List ℕ) where
   abbrev nameless : Option ℕ
   nameless = first_from (is_unbound words) (count_of words) 0
 
-  abbrev verdict_by : Bool → Option ℕ → Option ℕ → Option ℕ → Verdict
-  verdict_by wrong f₂ f₃ f₄ = refuse_at 1 (cond wrong (some 0) none) (refuse_at 2 f₂ (refuse_at 3 f₃ (refuse_at 4 f₄ (Accepted (count_of words)))))
+  abbrev answer_by : Bool → Option ℕ → Option ℕ → Option ℕ → Result ℕ Refusal
+  answer_by wrong f₂ f₃ f₄ = refuse_at (λ place. WrongCount) (cond wrong (Some 0) None) (refuse_at Misfit f₂ (refuse_at Misplaced f₃ (refuse_at Unbound f₄ (Ok (count_of words)))))
 
-  at_place : {code place c p : ℕ} → c ≡ code → p ≡ place → RefusedFor words c p → RefusedFor words code place
-  at_place p q r = rw (← p, ← q) r
+  at_refusal : {refusal refusal' : Refusal} → ◌≡◌ {A = Result ℕ Refusal} (Err refusal) (Err refusal') → RefusedFor words (refusal_code refusal) (refusal_place refusal) →
+      RefusedFor words (refusal_code refusal') (refusal_place refusal')
+  at_refusal {refusal} {refusal'} e r = let same : refusal ≡ refusal' = cc in rw (← same) r
 
-  pub refused_for : {code place : ℕ} → check_of words ≡ Refused code place → RefusedFor words code place
+  pub refused_for : {refusal : Refusal} → check_of words ≡ Err refusal → RefusedFor words (refusal_code refusal) (refusal_place refusal)
   unfolding check_of
-  refused_for {code} {place} is = go (wrong_count (length words)) misfit stray nameless refl refl refl refl is
+  refused_for {refusal} is = go (wrong_count (length words)) misfit stray nameless refl refl refl refl is
     where
       go : (wrong : Bool) (f₂ f₃ f₄ : Option ℕ) → wrong_count (length words) ≡ wrong → misfit ≡ f₂ → stray ≡ f₃ → nameless ≡ f₄ →
-          verdict_by wrong f₂ f₃ f₄ ≡ Refused code place → RefusedFor words code place
-      go true f₂ f₃ f₄ w e₂ e₃ e₄ v = at_place (cc) (cc) (for_its_count w)
-      go false (some k) f₃ f₄ w e₂ e₃ e₄ v = at_place (cc) (cc) (for_a_rule w (to_smallest e₂))
-      go false none (some k) f₄ w e₂ e₃ e₄ v = at_place (cc) (cc) (for_a_parent w (to_none e₂) (to_smallest e₃))
-      go false none none (some k) w e₂ e₃ e₄ v = at_place (cc) (cc) (for_a_name w (to_none e₂) (to_none e₃) (to_smallest e₄))
-      go false none none none w e₂ e₃ e₄ v = absurd (let z : ◌≡◌ {A = ℕ} 0 1 = cc in omega arith)
-
-  refused_so : {code place : ℕ} → RefusedFor words code place → check_of words ≡ Refused code place
-  unfolding check_of
-  refused_so (for_its_count w) = rw w
-  refused_so (for_a_rule w s) = rw (w, from_smallest s)
-  refused_so (for_a_parent w f s) = rw (w, from_none f, from_smallest s)
-  refused_so (for_a_name w f g s) = rw (w, from_none f, from_none g, from_smallest s)
+          answer_by wrong f₂ f₃ f₄ ≡ Err refusal → RefusedFor words (refusal_code refusal) (refusal_place refusal)
+      go true f₂ f₃ f₄ w e₂ e₃ e₄ a = at_refusal a (for_its_count w)
+      go false (Some k) f₃ f₄ w e₂ e₃ e₄ a = at_refusal a (for_a_rule w (to_smallest e₂))
+      go false None (Some k) f₄ w e₂ e₃ e₄ a = at_refusal a (for_a_parent w (to_none e₂) (to_smallest e₃))
+      go false None None (Some k) w e₂ e₃ e₄ a = at_refusal a (for_a_name w (to_none e₂) (to_none e₃) (to_smallest e₄))
+      go false None None None w e₂ e₃ e₄ a = absurd (let z : ◌≡◌ {A = ℕ} 0 1 = cc in omega arith)
 
   -- ---- As numbers
 
-  abbrev Numbers : Verdict → ℕ → ℕ → Type 0
-  Numbers v code place = (check_code v ≡ code) × (check_place v ≡ place)
+  abbrev Numbers : Result ℕ Refusal → ℕ → ℕ → Type 0
+  Numbers answer code place = (check_code answer ≡ code) × (check_place answer ≡ place)
 
-  no_refusal_is_0 : {place : ℕ} → ¬ RefusedFor words 0 place
-  no_refusal_is_0 r = elim r [ ]
+  refused_so : {code place : ℕ} → RefusedFor words code place → Numbers (check_of words) code place
+  unfolding check_of
+  refused_so (for_its_count w) = rw w (refl, refl)
+  refused_so (for_a_rule w s) = rw (w, from_smallest s) (refl, refl)
+  refused_so (for_a_parent w f s) = rw (w, from_none f, from_smallest s) (refl, refl)
+  refused_so (for_a_name w f g s) = rw (w, from_none f, from_none g, from_smallest s) (refl, refl)
+
+  no_refusal_is_0 : (refusal : Refusal) → refusal_code refusal ≡ 0 → ⊥
+  no_refusal_is_0 WrongCount e = omega arith
+  no_refusal_is_0 (Misfit k) e = omega arith
+  no_refusal_is_0 (Misplaced k) e = omega arith
+  no_refusal_is_0 (Unbound k) e = omega arith
 
   pub code_0_exactly : (n : ℕ) → Numbers (check_of words) 0 n ↔ Checked words n
   code_0_exactly n = (go (check_of words) refl, λ c. rw (checked_is_accepted words n c) (refl, refl))
     where
-      go : (v : Verdict) → check_of words ≡ v → Numbers v 0 n → Checked words n
-      go (Accepted m) is (zero_code, same) = accepted_is_checked words n (is ∙ ap Accepted same)
-      go (Refused code place) is (zero_code, same) = absurd (no_refusal_is_0 (refused_for (is ∙ ap (λ c. Refused c place) zero_code)))
+      go : (answer : Result ℕ Refusal) → check_of words ≡ answer → Numbers answer 0 n → Checked words n
+      go (Ok m) is (zero_code, same) = accepted_is_checked words n (is ∙ ap Ok same)
+      go (Err refusal) is (zero_code, same) = absurd (no_refusal_is_0 refusal zero_code)
 
   pub codes_1_to_4_exactly : (code place : ℕ) → 0 < code → Numbers (check_of words) code place ↔ RefusedFor words code place
-  codes_1_to_4_exactly code place some_code = (go (check_of words) refl, λ r. rw (refused_so r) (refl, refl))
+  codes_1_to_4_exactly code place some_code = (go (check_of words) refl, refused_so)
     where
-      go : (v : Verdict) → check_of words ≡ v → Numbers v code place → RefusedFor words code place
-      go (Accepted m) is (c, p) = absurd (omega arith)
-      go (Refused c' p') is (c, p) = refused_for (is ∙ ap (λ x. Refused x p') c ∙ ap (Refused code) p)
+      go : (answer : Result ℕ Refusal) → check_of words ≡ answer → Numbers answer code place → RefusedFor words code place
+      go (Ok m) is (c, p) = absurd (omega arith)
+      go (Err refusal) is (c, p) = rw (← c, ← p) (refused_for is)

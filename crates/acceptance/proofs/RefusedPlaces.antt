@@ -1,13 +1,13 @@
 -- The place of a refusal: 0 for code 1, else a node of the table, of which there are at most 512.
-use Rattle.std.specs.Prelude.{ℕ, ◌≤◌, ◌<◌, ◌≡◌, refl, false, List, length}
+use Rattle.std.specs.Prelude.{ℕ, ◌≤◌, ◌<◌, ◌≡◌, refl, false, List, length, Err}
 use Rattle.std.proofs.Math.Decide.{ℕ_discrete}
 use Rattle.std.proofs.Common.{arith}
 use Rattle.table.specs.Node.{count_of}
-use Rattle.acceptance.specs.Refusals.{wrong_count, check_of}
+use Rattle.acceptance.specs.Refusals.{wrong_count, check_of, refusal_code, refusal_place}
 use Rattle.acceptance.specs.RefusedFor.{RefusedFor, for_its_count, for_a_rule, for_a_parent, for_a_name}
 use Rattle.acceptance.proofs.RefusalsExactly.{refused_for}
 use Rattle.acceptance.specs.Accepted.{right_count}
-use Rattle.acceptance.specs.declared.Verdict.TheVariants.{Refused}
+use Rattle.acceptance.specs.declared.Refusal.{Refusal}
 
 -- What a code of the check and its place say, in a table of n nodes.
 pub record RefusedPlace (n code place : ℕ) : Type 0 where
@@ -28,7 +28,7 @@ place_below_512 {code = code} {place = place} refused = go (ℕ_discrete code 1)
     go (yes one) = omega (arith, refused.place_0_of_code_1 one)
     go (no more) = let node = refused.place_is_node (omega (arith, refused.code_1_to_4)) in omega arith
 
-pub refused_place : (words : List ℕ) {code place : ℕ} → check_of words ≡ Refused code place → RefusedPlace (count_of words) code place
+pub refused_place : (words : List ℕ) {refusal : Refusal} → check_of words ≡ Err refusal → RefusedPlace (count_of words) (refusal_code refusal) (refusal_place refusal)
 refused_place words e = go (refused_for words e)
   where
     few : wrong_count (length words) ≡ false → count_of words ≤ 512

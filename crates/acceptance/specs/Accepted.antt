@@ -1,17 +1,16 @@
 -- Code 0 of the check says that a table is a checked one, and a checked one gets code 0.
-use Rattle.std.specs.Prelude.{ℕ, ◌*◌, ◌/◌, ◌%◌, ◌≤◌, ◌<◌, ◌≡◌, refl, Bool, true, false, cond, ◌&&◌, ◌||◌, List, eqb, ltb, length}
+use Rattle.std.specs.Prelude.{ℕ, ◌*◌, ◌/◌, ◌%◌, ◌≤◌, ◌<◌, ◌≡◌, refl, Bool, true, false, cond, ◌&&◌, ◌||◌, List, eqb, ltb, length, Option, None, Some, is_some, Result, Ok}
 use Rattle.std.proofs.Common.{subst, arith, eqb-true, ltb-false, eq-eqb, ne_eqb, le-ltb}
 use Rattle.std.proofs.Math.Bool.{not}
-use Rattle.std.proofs.Math.Option.{Option, none, some}
 use Rattle.std.proofs.Math.Decide.{ℕ_discrete}
 use Rattle.std.proofs.lemmas.Bool.{eqb-false, not-false}
 use Rattle.language.specs.Expression.{Name, Closed}
 use Rattle.language.proofs.MostGeneral.{or_false}
 use Rattle.table.specs.Node.{Node, Nodes, constant_node, name_node, application_node, if_node, lambda_node, let_node, rec_node, Field, Kid, node_at, count_of}
 use Rattle.table.specs.Scope.{scope, first_named, name_of, binder_for}
-use Rattle.acceptance.specs.Refusals.{wrong_count, fits, times_below, misplaced, is_some, unbound, first_from, refuse_at, check_nodes, check_of}
-use Rattle.acceptance.specs.declared.Verdict.{Verdict}
-use Rattle.acceptance.specs.declared.Verdict.TheVariants.{Accepted}
+use Rattle.acceptance.specs.Refusals.{wrong_count, fits, times_below, misplaced, unbound, first_from, refuse_at, check_nodes, check_of}
+use Rattle.acceptance.specs.declared.Refusal.{Refusal}
+use Rattle.acceptance.specs.declared.Refusal.TheVariants.{WrongCount, Misfit, Misplaced, Unbound}
 use Rattle.table.specs.Tree.{Descending, Tree, ClosedTree}
 use Rattle.table.specs.TreeLaws.{one_place}
 use Rattle.table.specs.ExpressionOf.{exp_of}
@@ -76,12 +75,12 @@ module _ (nd : Nodes) where
 
   -- ---- Code 4
 
-  has_binder : (k : ℕ) (x : Name) → unbound nd k ≡ false → nd k ≡ name_node x → (b : ℕ) × (first_named nd x (scope nd k) ≡ some b)
+  has_binder : (k : ℕ) (x : Name) → unbound nd k ≡ false → nd k ≡ name_node x → (b : ℕ) × (first_named nd x (scope nd k) ≡ Some b)
   has_binder k x h e = go (first_named nd x (scope nd k)) (not-false _ (rw e at h))
     where
-      go : (o : Option ℕ) → is_some o ≡ true → (b : ℕ) × (o ≡ some b)
-      go none h = absurd (let z : ◌≡◌ {A = ℕ} 0 1 = cc in omega arith)
-      go (some b) h = (b, refl)
+      go : (o : Option ℕ) → is_some o ≡ true → (b : ℕ) × (o ≡ Some b)
+      go None h = absurd (let z : ◌≡◌ {A = ℕ} 0 1 = cc in omega arith)
+      go (Some b) h = (b, refl)
 
   not_unbound : {n : ℕ} → ClosedTree nd n → (k : ℕ) → k < n → unbound nd k ≡ false
   not_unbound t k h = go (nd k) refl
@@ -98,13 +97,13 @@ module _ (nd : Nodes) where
 -- ---- All of them
 
 -- A test that refuses nothing finds no node, and the next one decides.
-finds_nothing : (code : ℕ) (bad : ℕ → Bool) (n m : ℕ) (otherwise : Verdict) → refuse_at code (first_from bad n 0) otherwise ≡ Accepted m →
-    ((k : ℕ) → k < n → bad k ≡ false) × (otherwise ≡ Accepted m)
-finds_nothing code bad n m otherwise h = go (first_from bad n 0) refl h
+finds_nothing : (refusal : ℕ → Refusal) (bad : ℕ → Bool) (n m : ℕ) (otherwise : Result ℕ Refusal) → refuse_at refusal (first_from bad n 0) otherwise ≡ Ok m →
+    ((k : ℕ) → k < n → bad k ≡ false) × (otherwise ≡ Ok m)
+finds_nothing refusal bad n m otherwise h = go (first_from bad n 0) refl h
   where
-    go : (o : Option ℕ) → first_from bad n 0 ≡ o → refuse_at code o otherwise ≡ Accepted m → ((k : ℕ) → k < n → bad k ≡ false) × (otherwise ≡ Accepted m)
-    go none e h = (λ k below. first_none bad n 0 e k (omega arith) (omega arith), h)
-    go (some k) e h = absurd (let z : ◌≡◌ {A = ℕ} 0 1 = cc in omega arith)
+    go : (o : Option ℕ) → first_from bad n 0 ≡ o → refuse_at refusal o otherwise ≡ Ok m → ((k : ℕ) → k < n → bad k ≡ false) × (otherwise ≡ Ok m)
+    go None e h = (λ k below. first_none bad n 0 e k (omega arith) (omega arith), h)
+    go (Some k) e h = absurd (let z : ◌≡◌ {A = ℕ} 0 1 = cc in omega arith)
 
 module _ (words : List ℕ) (n : ℕ) where
   abbrev nd : Nodes
@@ -116,7 +115,7 @@ module _ (words : List ℕ) (n : ℕ) where
       range : {p c : ℕ} {f : Field} → p < n → Kid nd p f c → (p < c) × (c < n)
       range {p} h kid = kids_of_fitting_in_range n p words (not-false _ (fitting p h)) kid
 
-  pub checked_is_accepted : Checked words n → check_of words ≡ Accepted n
+  pub checked_is_accepted : Checked words n → check_of words ≡ Ok n
   unfolding check_of
   checked_is_accepted c =
       let closed = c.closed in
@@ -129,20 +128,20 @@ module _ (words : List ℕ) (n : ℕ) where
         none_first (unbound nd) n 0 (λ k low high. not_unbound nd closed k (omega arith)),
       )
 
-pub accepted_is_checked : (words : List ℕ) (n : ℕ) → check_of words ≡ Accepted n → Checked words n
+pub accepted_is_checked : (words : List ℕ) (n : ℕ) → check_of words ≡ Ok n → Checked words n
 unfolding check_of
 accepted_is_checked words n h = go (wrong_count (length words)) refl h
   where
     m : ℕ
     m = count_of words
 
-    go : (b : Bool) → wrong_count (length words) ≡ b → refuse_at 1 (cond b (some 0) none) (check_nodes words (node_at words) m) ≡ Accepted n → Checked words n
+    go : (b : Bool) → wrong_count (length words) ≡ b → refuse_at (λ place. WrongCount) (cond b (Some 0) None) (check_nodes words (node_at words) m) ≡ Ok n → Checked words n
     go true w h = absurd (let z : ◌≡◌ {A = ℕ} 0 1 = cc in omega arith)
     go false w h =
         let (is, low, high) = right_count (length words) w in
-        let (fitting, h₃) = finds_nothing 2 (λ k. not (fits words m k)) m n _ h in
-        let (placed, h₄) = finds_nothing 3 (misplaced (node_at words) m) m n _ h₃ in
-        let (bound, h₀) = finds_nothing 4 (unbound (node_at words)) m n _ h₄ in
+        let (fitting, h₃) = finds_nothing Misfit (λ k. not (fits words m k)) m n _ h in
+        let (placed, h₄) = finds_nothing Misplaced (misplaced (node_at words) m) m n _ h₃ in
+        let (bound, h₀) = finds_nothing Unbound (unbound (node_at words)) m n _ h₄ in
         let same : m ≡ n = cc in
         subst (Checked words) same (record {
           length_is = is;

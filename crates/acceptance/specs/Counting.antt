@@ -1,8 +1,8 @@
 -- What the code of 3 counts: a node's parents below it, and the children of all nodes.
-use Rattle.std.specs.Prelude.{ℕ, zero, suc, ◌+◌, Bool, not, ◌&&◌, eqb}
+use Rattle.std.specs.Prelude.{ℕ, zero, suc, ◌+◌, Bool, not, ◌&&◌, eqb, is_some}
 use Rattle.table.specs.Node.{Node, Nodes, field_a, field_b, field_c, child}
 use Rattle.language.specs.Once.{once}
-use Rattle.acceptance.specs.Refusals.{times_below, is_some}
+use Rattle.acceptance.specs.Refusals.{times_below}
 
 -- Parents have smaller numbers, so it is enough to look for them below the node.
 abbrev pub misplaced_below : Nodes → ℕ → Bool

@@ -1,14 +1,13 @@
 -- The rules of code 2 by columns: what each of the three fields of a node may hold, as the code asks it of one field after the other.
 use Prim.Native.Nat.{ℕ, zero, suc, ◌+◌, ◌*◌, ◌≤◌, ◌<◌}
-use Rattle.std.specs.Prelude.{◌≡◌, refl, ◌⊎◌, Bool, true, false, not, cond, ◌&&◌, ◌||◌, List, [], ◌∷◌, eqb, ltb, get_or}
-use Rattle.std.proofs.Common.{◌∙◌, sym, inl, inr, ne_eqb}
+use Rattle.std.specs.Prelude.{◌≡◌, refl, Bool, true, false, not, cond, ◌&&◌, ◌||◌, List, [], ◌∷◌, eqb, ltb, get_or, None, Some, is_some}
+use Rattle.std.proofs.Common.{◌∙◌, sym}
 use Rattle.std.proofs.Math.Path.{ap}
-use Rattle.std.proofs.Math.Option.{none, some}
 use Rattle.std.proofs.Math.Decide.{ℕ_discrete}
 use native.Mathlib.Omega.{arith}
 use Rattle.std.proofs.Math.ListN.{get_or-eq_default}
 use Rattle.table.specs.Node.{word_at}
-use Rattle.acceptance.specs.Refusals.{is_unused, is_name, is_child, fits_rule, fits, first_from, is_some}
+use Rattle.acceptance.specs.Refusals.{is_unused, is_name, is_child, fits_rule, fits, first_from}
 use Rattle.acceptance.specs.SearchLoop.{Searching, search_ends, search_finds}
 
 -- Kinds 0 to 9, each with the rule of its field a, at node k of n.
@@ -34,13 +33,6 @@ field_fits n k kind (suc (suc f)) x = third_fits n k kind x
 
 -- ---- The rules as the code tells them apart
 
-pub an_if_or_let : (kind : ℕ) → (kind ≡ 6) ⊎ (kind ≡ 8) → (eqb kind 6 || eqb kind 8) ≡ true
-an_if_or_let kind (inl e) = rw e
-an_if_or_let kind (inr e) = rw e
-
-pub no_if_or_let : (kind : ℕ) → ((kind ≡ 6) ⊎ (kind ≡ 8) → ⊥) → (eqb kind 6 || eqb kind 8) ≡ false
-no_if_or_let kind h = rw (ne_eqb kind 6 (λ e. h (inl e)), ne_eqb kind 8 (λ e. h (inr e)))
-
 module _ (n k kind x : ℕ) where
   pub first_is_child : 5 ≤ kind → kind < 7 → first_fits n k kind x ≡ is_child n k x
   unfolding first_fits
@@ -62,11 +54,6 @@ module _ (n k kind x : ℕ) where
   pub first_of_unknown : 10 ≤ kind → first_fits n k kind x ≡ false
   unfolding first_fits
   first_of_unknown h = ap (λ (rule : ℕ → Bool). rule x) (get_or-eq_default (first_rules n k) (λ a. false) h)
-
-  pub field_is_third : (f : ℕ) → (f ≡ 0 → ⊥) → (f ≡ 1 → ⊥) → field_fits n k kind f x ≡ third_fits n k kind x
-  field_is_third zero not0 not1 = absurd (not0 refl)
-  field_is_third (suc zero) not0 not1 = absurd (not1 refl)
-  field_is_third (suc (suc f)) not0 not1 = refl
 
 -- ---- The three fields of a node
 
@@ -90,7 +77,7 @@ found_of_three : (bad : ℕ → Bool) (p q r : Bool) → bad 0 ≡ not p → bad
 unfolding first_from
 found_of_three bad p q r e₀ e₁ e₂ = rw (e₀, e₁, e₂) (go p q r)
   where
-    go : (p q r : Bool) → is_some (cond (not p) (some 0) (cond (not q) (some 1) (cond (not r) (some 2) none))) ≡ not (p && q && r)
+    go : (p q r : Bool) → is_some {T = ℕ} (cond (not p) (Some 0) (cond (not q) (Some 1) (cond (not r) (Some 2) None))) ≡ not (p && q && r)
     go false q r = refl
     go true false r = refl
     go true true false = refl

@@ -1,7 +1,6 @@
 -- Code 2: the children of a node that fits its rule have numbers above the node's and below the node count.
-use Rattle.std.specs.Prelude.{ℕ, zero, suc, ◌+◌, ◌*◌, ◌<◌, ◌≡◌, refl, Bool, false, ◌&&◌, List, [], ◌∷◌, ltb, get_or}
+use Rattle.std.specs.Prelude.{ℕ, zero, suc, ◌+◌, ◌*◌, ◌<◌, ◌≡◌, refl, Bool, false, ◌&&◌, List, [], ◌∷◌, ltb, get_or, Option, None, Some}
 use Rattle.std.proofs.Math.Bool.{true}
-use Rattle.std.proofs.Math.Option.{Option, none, some}
 use Rattle.std.proofs.Common.{arith}
 use borrow.Author.Tests.{ltb-true}
 use Rattle.language.specs.Expression.{unit_element}
@@ -33,8 +32,8 @@ all_true a b c h = let (ab, z) = both_true (a && b) c h in let (x, y) = both_tru
 module _ (n k : ℕ) where
   -- Of a field that may hold a child.
   abbrev fits_as_child : Option ℕ → Bool
-  fits_as_child none = true
-  fits_as_child (some c) = is_child n k c
+  fits_as_child None = true
+  fits_as_child (Some c) = is_child n k c
 
   abbrev ChildrenFit : Node → Type 0
   ChildrenFit node = (fits_as_child (child node field_a) ≡ true) × (fits_as_child (child node field_b) ≡ true) × (fits_as_child (child node field_c) ≡ true)

@@ -1,10 +1,9 @@
 -- Code 3 as the code finds it. Where every node fits its rule, a node's parents stand below it, so that it is enough to count there.
 use Prim.Native.Nat.{ℕ, zero, suc, ◌+◌, ◌≤◌, ◌<◌}
-use Rattle.std.specs.Prelude.{◌≡◌, Bool, true, false, not, ◌&&◌, List, eqb}
+use Rattle.std.specs.Prelude.{◌≡◌, Bool, true, false, not, ◌&&◌, List, eqb, Some}
 use Rattle.std.proofs.Math.Path.{refl}
 use Rattle.std.proofs.Common.{ap, eq-eqb, ne_eqb}
 use Rattle.std.proofs.Math.Bool.{and-false}
-use Rattle.std.proofs.Math.Option.{some}
 use Rattle.std.proofs.Math.Decide.{ℕ_discrete}
 use Rattle.std.proofs.Math.Numerals.{add-one}
 use native.Mathlib.Omega.{arith}
@@ -44,7 +43,7 @@ module _ (nd : Nodes) (k : ℕ) where
 
   -- ---- Where it is enough
 
-  no_times : (p : ℕ) → ((f : Field) → child (nd p) f ≡ some k → ⊥) → times_in (nd p) k ≡ 0
+  no_times : (p : ℕ) → ((f : Field) → child (nd p) f ≡ Some k → ⊥) → times_in (nd p) k ≡ 0
   no_times p none_holds = rw (not_held field_a, not_held field_b, not_held field_c)
     where
       not_held : (f : Field) → holds k (child (nd p) f) ≡ false
@@ -68,7 +67,7 @@ pub misplaced_as_below : (words : List ℕ) (n : ℕ) → ((k : ℕ) → k < n �
 misplaced_as_below words n fitting =
     first_same n 0 λ k low high. ap (λ times. not (eqb k 0) && not (eqb times 1)) (all_below k (omega arith))
   where
-    above : (k p : ℕ) → k ≤ p → p < n → (f : Field) → child (node_at words p) f ≡ some k → ⊥
+    above : (k p : ℕ) → k ≤ p → p < n → (f : Field) → child (node_at words p) f ≡ Some k → ⊥
     above k p at_least below f e =
         let low = (kids_of_fitting_in_range n p words (fitting p below) (record { stands = e })).0 in
         omega arith

@@ -1,9 +1,8 @@
 -- If the nodes have as many children fields as there are nodes but the root, and each node but the root stands in one, then each stands in
 -- exactly one.
 use Prim.Native.Nat.{ℕ, zero, suc, ◌+◌, ◌≤◌, ◌<◌}
-use Rattle.std.specs.Prelude.{◌≡◌, refl, true, false, eqb}
+use Rattle.std.specs.Prelude.{◌≡◌, refl, false, eqb, Option, None, Some, is_some}
 use Rattle.std.proofs.Math.Path.{ap}
-use Rattle.std.proofs.Math.Option.{Option, none, some}
 use Rattle.std.proofs.Math.Decide.{ℕ_discrete}
 use native.Mathlib.Omega.{arith}
 use Rattle.std.proofs.Common.{add-one, ne_eqb}
@@ -11,7 +10,7 @@ use Rattle.table.specs.Node.{Node, Nodes, field_a, field_b, field_c, child}
 use Rattle.table.specs.Walk.{holds}
 use Rattle.language.specs.Once.{once}
 use Rattle.language.proofs.Count.{once_small}
-use Rattle.acceptance.specs.Refusals.{times_in, times_below, is_some, first_from}
+use Rattle.acceptance.specs.Refusals.{times_in, times_below, first_from}
 use Rattle.acceptance.specs.Counting.{misplaced_below, children_in, children_below}
 use Rattle.acceptance.specs.Parents.{times_grow, times_next, placed_if}
 use Rattle.acceptance.specs.FirstFrom.{none_first}
@@ -30,24 +29,24 @@ sum_of_sums f g (suc n) =
     omega arith
 
 -- A child is met once at most.
-sum_nothing : (n : ℕ) → sum (λ k. once (holds k none)) n ≡ 0
+sum_nothing : (n : ℕ) → sum (λ k. once (holds k None)) n ≡ 0
 unfolding sum
 sum_nothing zero = refl
 sum_nothing (suc n) = omega (arith, sum_nothing n)
 
-met_past : (c n : ℕ) → n ≤ c → sum (λ k. once (holds k (some c))) n ≡ 0
+met_past : (c n : ℕ) → n ≤ c → sum (λ k. once (holds k (Some c))) n ≡ 0
 unfolding sum
 met_past c zero h = refl
 met_past c (suc n) h =
     let rest = met_past c n (omega arith) in
     rw (ne_eqb c n (omega arith)) (omega arith)
 
-met_once : (c n : ℕ) → sum (λ k. once (holds k (some c))) n ≤ 1
+met_once : (c n : ℕ) → sum (λ k. once (holds k (Some c))) n ≤ 1
 unfolding sum
 met_once c zero = omega arith
 met_once c (suc n) = go (ℕ_discrete c n) (met_once c n)
   where
-    go : Dec (c ≡ n) → sum (λ k. once (holds k (some c))) n ≤ 1 → sum (λ k. once (holds k (some c))) n + once (eqb c n) ≤ 1
+    go : Dec (c ≡ n) → sum (λ k. once (holds k (Some c))) n ≤ 1 → sum (λ k. once (holds k (Some c))) n + once (eqb c n) ≤ 1
     go (yes e) rest =
         let past = met_past c n (omega arith) in
         let one = once_small (eqb c n) in
@@ -55,8 +54,8 @@ met_once c (suc n) = go (ℕ_discrete c n) (met_once c n)
     go (no d) rest = rw (ne_eqb c n d) (omega arith)
 
 met_at_most : (o : Option ℕ) (n : ℕ) → sum (λ k. once (holds k o)) n ≤ once (is_some o)
-met_at_most none n = rw (sum_nothing n) (omega arith)
-met_at_most (some c) n = met_once c n
+met_at_most None n = rw (sum_nothing n) (omega arith)
+met_at_most (Some c) n = met_once c n
 
 -- ---- Children and parents, counted both ways
 
@@ -118,7 +117,7 @@ module _ (nd : Nodes) {n : ℕ} (counted : children_below nd n + 1 ≡ n) (each 
       let one = each k low high in
       omega (arith, rw (← is) at more)
 
-  pub all_placed : first_from (misplaced_below nd) n 0 ≡ none
+  pub all_placed : first_from (misplaced_below nd) n 0 ≡ None
   all_placed = none_first (misplaced_below nd) n 0 (λ k low high. go k high (ℕ_discrete k 0))
     where
       go : (k : ℕ) → k < 0 + n → Dec (k ≡ 0) → misplaced_below nd k ≡ false
@@ -149,7 +148,3 @@ parents_so_far nd {k} before here j low high = go (ℕ_discrete j k)
     go : Dec (j ≡ k) → 1 ≤ times_below nd j j
     go (yes e) = rw e here
     go (no d) = before j low (omega arith)
-
--- Nothing is claimed where the answer is no.
-pub no_claim : {A : Type 0} → false ≡ true → A
-no_claim e = absurd (let z : ◌≡◌ {A = ℕ} 0 1 = cc in omega arith)

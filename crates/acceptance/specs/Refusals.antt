@@ -1,12 +1,11 @@
 -- The refusals 1 to 4 of a table, in this order, each with the smallest place.
-use Rattle.std.specs.Prelude.{ℕ, zero, suc, ◌+◌, ◌*◌, ◌%◌, Bool, true, false, not, cond, ◌&&◌, ◌||◌, List, [], ◌∷◌, eqb, ltb, length, get_or}
-use Rattle.std.proofs.Math.Option.{Option, none, some}
+use Rattle.std.specs.Prelude.{ℕ, zero, suc, ◌+◌, ◌*◌, ◌%◌, Bool, false, not, cond, ◌&&◌, ◌||◌, List, [], ◌∷◌, eqb, ltb, length, get_or, Option, None, Some, is_some, Result, Ok, Err}
 use Rattle.language.specs.Once.{once}
 use Rattle.table.specs.Node.{Node, Nodes, field_a, field_b, field_c, child, word_at, node_at, count_of}
 use Rattle.table.specs.Walk.{holds}
 use Rattle.table.specs.Scope.{name_of, binder_of}
-use Rattle.acceptance.specs.declared.Verdict.{Verdict}
-use Rattle.acceptance.specs.declared.Verdict.TheVariants.{Accepted, Refused}
+use Rattle.acceptance.specs.declared.Refusal.{Refusal}
+use Rattle.acceptance.specs.declared.Refusal.TheVariants.{WrongCount, Misfit, Misplaced, Unbound}
 
 -- ---- Code 1: the word count is 0, no multiple of 4, or above 2,048
 
@@ -15,7 +14,7 @@ wrong_count l = eqb l 0 || not (eqb (l % 4) 0) || ltb 2048 l
 
 -- Its place is 0.
 abbrev pub miscount : ℕ → Option ℕ
-miscount l = cond (wrong_count l) (some 0) none
+miscount l = cond (wrong_count l) (Some 0) None
 
 -- ---- Code 2: a node has an unknown kind or a field outside its rule
 
@@ -65,10 +64,6 @@ misplaced nd n k = not (eqb k 0) && not (eqb (times_below nd n k) 1)
 
 -- ---- Code 4: a name has no binder
 
-abbrev pub is_some : Option ℕ → Bool
-is_some none = false
-is_some (some x) = true
-
 abbrev pub unbound : Nodes → ℕ → Bool
 unbound nd k = is_some (name_of (nd k)) && not (is_some (binder_of nd k))
 
@@ -76,30 +71,43 @@ unbound nd k = is_some (name_of (nd k)) && not (is_some (binder_of nd k))
 
 -- The smallest of `count` nodes, from `at` on, that a test finds.
 unfoldable pub first_from : (ℕ → Bool) → ℕ → ℕ → Option ℕ
-first_from bad zero at = none
-first_from bad (suc count) at = let later = first_from bad count (suc at) in cond (bad at) (some at) later
+first_from bad zero at = None
+first_from bad (suc count) at = let later = first_from bad count (suc at) in cond (bad at) (Some at) later
 
-abbrev pub refuse_at : ℕ → Option ℕ → Verdict → Verdict
-refuse_at code none otherwise = otherwise
-refuse_at code (some k) otherwise = Refused code k
+-- The refusal of the place that is found.
+abbrev pub refuse_at : (ℕ → Refusal) → Option ℕ → Result ℕ Refusal → Result ℕ Refusal
+refuse_at refusal None otherwise = otherwise
+refuse_at refusal (Some k) otherwise = Err (refusal k)
 
-abbrev pub check_nodes : List ℕ → Nodes → ℕ → Verdict
+abbrev pub check_nodes : List ℕ → Nodes → ℕ → Result ℕ Refusal
 check_nodes words nd n =
-    refuse_at 2 (first_from (λ k. not (fits words n k)) n 0)
-    (refuse_at 3 (first_from (misplaced nd n) n 0)
-    (refuse_at 4 (first_from (unbound nd) n 0)
-    (Accepted n)))
+    refuse_at Misfit (first_from (λ k. not (fits words n k)) n 0)
+    (refuse_at Misplaced (first_from (misplaced nd n) n 0)
+    (refuse_at Unbound (first_from (unbound nd) n 0)
+    (Ok n)))
 
-unfoldable pub check_of : List ℕ → Verdict
-check_of words = refuse_at 1 (miscount (length words)) (check_nodes words (node_at words) (count_of words))
+unfoldable pub check_of : List ℕ → Result ℕ Refusal
+check_of words = refuse_at (λ place. WrongCount) (miscount (length words)) (check_nodes words (node_at words) (count_of words))
 
 -- ---- The numbers of the rules
 
-abbrev pub check_code : Verdict → ℕ
-check_code (Accepted n) = 0
-check_code (Refused code place) = code
+abbrev pub refusal_code : Refusal → ℕ
+refusal_code WrongCount = 1
+refusal_code (Misfit k) = 2
+refusal_code (Misplaced k) = 3
+refusal_code (Unbound k) = 4
+
+abbrev pub refusal_place : Refusal → ℕ
+refusal_place WrongCount = 0
+refusal_place (Misfit k) = k
+refusal_place (Misplaced k) = k
+refusal_place (Unbound k) = k
+
+abbrev pub check_code : Result ℕ Refusal → ℕ
+check_code (Ok n) = 0
+check_code (Err refusal) = refusal_code refusal
 
 -- The place of acceptance is the node count.
-abbrev pub check_place : Verdict → ℕ
-check_place (Accepted n) = n
-check_place (Refused code place) = place
+abbrev pub check_place : Result ℕ Refusal → ℕ
+check_place (Ok n) = n
+check_place (Err refusal) = refusal_place refusal

@@ -2,71 +2,68 @@
 #![tactic(auto)]
 
 mod names;
+mod nodes;
 mod parents;
 mod rules;
 
-ghost use Rattle.std.specs.Prelude.{◌*◌, ◌≤◌, ◌<◌, ◌≡◌, length};
-ghost use Rattle.table.specs.Node.{node_at, count_of};
-ghost use Rattle.acceptance.specs.Refusals.{miscount, refuse_at, check_nodes, check_of};
-ghost use Rattle.acceptance.specs.Stages.{check_tree};
+ghost use Rattle.std.specs.Prelude.{◌≡◌, length};
+ghost use Rattle.table.specs.Node.{count_of};
+ghost use Rattle.acceptance.specs.Refusals.{miscount, refuse_at, check_of, refusal_code, refusal_place};
 
-// What the check of a table answers.
-#[derive(Clone, Copy)]
-pub enum Verdict {
-    // The table is in order, with so many nodes.
-    Accepted(u32),
-    // The first refusal in order, with the smallest place.
-    Refused { code: u32, place: u32 },
+use crate::nodes::Nodes;
+
+// Why a table is refused, with the smallest node that is at fault.
+#[derive(Clone, Copy, Debug, PartialEq, Eq)]
+pub enum Refusal {
+    // 1: the word count is 0, no multiple of 4, or above 2,048.
+    WrongCount,
+    // 2: the node has an unknown kind or a field outside its rule.
+    Misfit(u32),
+    // 3: the node is not a child exactly once.
+    Misplaced(u32),
+    // 4: the node is a name without a binder.
+    Unbound(u32),
 }
 
-// Code 1, or the node count.
-fn count(words: &[u32]) -> Verdict
-    ensures { result ≡ refuse_at 1 (miscount (length words.now)) (Verdict.Accepted (count_of words.now)) }
-{
-    let l = words.len();
-    match l {
-        1..=2048 => {
-            if l % 4 == 0 {
-                Verdict::Accepted((l / 4) as u32)
-            } else {
-                Verdict::Refused { code: 1, place: 0 }
-            }
+impl Refusal {
+    // Its number, 1 to 4.
+    pub fn code(self) -> u32
+        ensures { result ≡ refusal_code self }
+    {
+        match self {
+            Refusal::WrongCount => 1,
+            Refusal::Misfit(_) => 2,
+            Refusal::Misplaced(_) => 3,
+            Refusal::Unbound(_) => 4,
         }
-        _ => Verdict::Refused { code: 1, place: 0 },
+    }
+
+    // The node at fault; 0 where the word count is.
+    pub fn place(self) -> u32
+        ensures { result ≡ refusal_place self }
+    {
+        match self {
+            Refusal::WrongCount => 0,
+            Refusal::Misfit(k) | Refusal::Misplaced(k) | Refusal::Unbound(k) => k,
+        }
     }
 }
 
-// Codes 3 and 4 of n nodes that keep the rules of their kinds, or the node count.
-fn check_tree(words: &[u32], n: u32) -> Verdict
-    requires { (4 * n ≤ length words.now) × (0 < n) }
-    ensures { result ≡ check_tree words.now n }
+// The node count, or code 1.
+fn count(words: &[u32]) -> Result<u32, Refusal>
+    ensures { result ≡ refuse_at (λ place. Refusal.WrongCount) (miscount (length words.now)) (Ok (count_of words.now)) }
 {
-    let placed = parents::rooted(words, n);
-    let Verdict::Accepted(_) = placed else {
-        return placed;
-    };
-    names::names(words, n)
+    let l = words.len();
+    match l {
+        1..=2048 if l % 4 == 0 => Ok((l / 4) as u32),
+        _ => Err(Refusal::WrongCount),
+    }
 }
 
-// Codes 2 to 4 of n nodes, or the node count.
-fn check_nodes(words: &[u32], n: u32) -> Verdict
-    requires { (4 * n ≤ length words.now) × (0 < n) }
-    ensures { result ≡ check_nodes words.now (node_at words.now) n }
-{
-    let fielded = rules::fields(words, n);
-    let Verdict::Accepted(_) = fielded else {
-        return fielded;
-    };
-    check_tree(words, n)
-}
-
-// The check of a table: the first refusal in order, or the node count.
-pub fn check(words: &[u32]) -> Verdict
+// The check of a table: the node count of a table that is in order, or the first refusal in order.
+pub fn check(words: &[u32]) -> Result<u32, Refusal>
     ensures { result ≡ check_of words.now }
 {
-    let counted = count(words);
-    let Verdict::Accepted(n) = counted else {
-        return counted;
-    };
-    check_nodes(words, n)
+    let count = count(words)?;
+    Nodes { words, count }.check()
 }

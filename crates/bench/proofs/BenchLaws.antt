@@ -1,5 +1,5 @@
 -- A row whose numbers the definitions compute holds of the calls: no answer that inference or a run may give has a different line.
-use Rattle.std.specs.Prelude.{ℕ, ◌≤◌, ◌≡◌, refl, List, [], ◌∷◌, map, length, take, drop}
+use Rattle.std.specs.Prelude.{ℕ, ◌≤◌, ◌≡◌, refl, Ok, List, [], ◌∷◌, map, length, take, drop}
 use Rattle.std.proofs.Common.{◌∙◌, ap, arith}
 use Rattle.std.proofs.lemmas.List.{length-replicate}
 use Rattle.std.proofs.Math.Seq.{take-append_seam}
@@ -7,7 +7,6 @@ use Rattle.lent.specs.Cleared.{zeros}
 use Rattle.table.specs.Node.{count_of}
 use Rattle.acceptance.specs.Refusals.{check_of}
 use Rattle.acceptance.specs.Accepted.{accepted_is_checked, count_is}
-use Rattle.acceptance.specs.declared.Verdict.TheVariants.{Accepted}
 use Rattle.inference.specs.Inference.{work_for, with_type, After, Infers, turned, work_short, no_type, out_short, typed}
 use Rattle.inference.specs.Textbook.{infers_textbook}
 use Rattle.bench.specs.Bench.{Call, inference, run, Row, type_numbers, as_far, InferenceGives, CallGives, Holds, Each}
@@ -19,10 +18,10 @@ written_type_is_read : (type out : List ℕ) → take (length type) (with_type t
 written_type_is_read type out = take-append_seam type (drop (length type) out)
 
 module _ (words : List ℕ) where
-  accepted_count : {n : ℕ} → check_of words ≡ Accepted n → count_of words ≡ n
+  accepted_count : {n : ℕ} → check_of words ≡ Ok n → count_of words ≡ n
   accepted_count {n} v = count_is (accepted_is_checked words n v)
 
-  zeros_are_enough : {n : ℕ} → check_of words ≡ Accepted n → work_for n ≤ length (zeros (work_for (count_of words)))
+  zeros_are_enough : {n : ℕ} → check_of words ≡ Ok n → work_for n ≤ length (zeros (work_for (count_of words)))
   zeros_are_enough v = rw (length-replicate, accepted_count v) (omega arith)
 
   module _ (room : ℕ) where

@@ -1,14 +1,13 @@
 -- A row of the bench: a call on a formula table, and the numbers that the rules state of its answer. A row holds if every answer that
 -- the call's contract allows begins with these numbers, whatever words the lent slices hold.
-use Rattle.std.specs.Prelude.{ℕ, ◌≤◌, ◌≡◌, List, [], ◌∷◌, length, take}
+use Rattle.std.specs.Prelude.{ℕ, ◌≤◌, ◌≡◌, Result, Ok, Err, List, [], ◌∷◌, length, take}
 use Rattle.table.specs.Node.{count_of}
 use Rattle.answers.specs.Answers as Run
 use Rattle.machine.specs.Runs.{capacity_of, RunIs}
 use Rattle.machine.specs.declared.Ran.{Ran}
 use Rattle.inference.specs.Inference as Inference
 use Rattle.inference.specs.Inference.{work_for, After, Infers}
-use Rattle.inference.specs.declared.Inferred.{Inferred}
-use Rattle.inference.specs.declared.Inferred.TheVariants.{Typed, Refused}
+use Rattle.inference.specs.declared.Untyped.{Untyped}
 
 -- ---- The rows
 
@@ -27,9 +26,9 @@ pub record Row : Type 0 where
 -- ---- The lines
 
 -- The words of a type stand at the beginning of the out slice.
-abbrev type_in : List ℕ → Inferred → List ℕ
-type_in out (Typed count) = take count out
-type_in out (Refused code place) = []
+abbrev type_in : List ℕ → Result ℕ Untyped → List ℕ
+type_in out (Ok count) = take count out
+type_in out (Err untyped) = []
 
 -- CODE PLACE, and the words of the type.
 abbrev pub type_numbers : After → List ℕ

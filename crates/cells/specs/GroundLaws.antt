@@ -7,52 +7,53 @@ use Rattle.language.specs.Ty.{unit, bool, int, ◌⇒◌, var, Subst}
 use Rattle.language.proofs.Count.{count, count_changed, count_bound, count_all, count_none, count_some}
 use Rattle.cells.specs.Grounding.{MarkingAt, Unmarked, no_mark, unmarked, Waits, Evaluates, Marking, LeansOrEvaluates, Settled, UnmarkedBelow, Progress}
 use Rattle.cells.specs.Interface.{GroundedOrNone, GroundTested}
-use Rattle.cells.specs.Cells.{Cell, free, link, unit_cell, bool_cell, int_cell, arrow_cell, Sat, ev_free, ev_link, ev_unit, ev_bool, ev_int, ev_arrow}
+use Rattle.cells.specs.Cells.{Sat, ev_free, ev_link, ev_unit, ev_bool, ev_int, ev_arrow}
 use Rattle.cells.specs.CellSteps.{tag}
 use Rattle.cells.specs.Grounded.{ungrounded_has_none, Leans, on_link, on_left, on_right}
 use Rattle.cells.specs.Layout.{cell_at, pair_at, store_of, cells_in, Sound, SameCells, no_pair}
-use Rattle.cells.specs.StoreLaws.{link_falls, same_cells, same_then, same_beside, same_store, sound_beside, says_tag, says_free, says_link, says_arrow, parts_inside, links_fall}
+use Rattle.cells.specs.StoreLaws.{link_falls, same_cells, same_then, same_beside, same_store, sound_beside, says, parts_inside, links_fall}
 use Rattle.cells.specs.Puts.{PairPut}
 use Rattle.cells.specs.declared.TypeCell.{TypeCell}
+use Rattle.cells.specs.declared.TypeCell.TheVariants.{Free, Link, UnitType, BoolType, IntType, Arrow}
 
 -- ---- What a cell leans on
 
-module _ {mem : List ℕ} {i : ℕ} (at : MarkingAt mem i) {c : TypeCell} (e : c ≡ cell_at mem i) where
+module _ {mem : List ℕ} {i : ℕ} (at : MarkingAt mem i) {x : TypeCell} (e : x ≡ cell_at mem i) where
   abbrev m : Marking mem
   m = at.marking
 
-  pub link_inside : c.tag ≡ 1 → c.a < cells_in mem
+  pub link_inside : {j : ℕ} → x ≡ Link j → j < cells_in mem
   link_inside t = omega (arith, link_falls m.ready.sound i e t, at.inside)
 
-  pub arrow_inside : c.tag ≡ 5 → (c.a < cells_in mem) × (c.b < cells_in mem)
+  pub arrow_inside : {l r : ℕ} → x ≡ Arrow l r → (l < cells_in mem) × (r < cells_in mem)
   arrow_inside = parts_inside m.ready.sound i e
 
-  pub link_leans : c.tag ≡ 1 → {waits : Bool} → waits ≡ unmarked mem c.a → LeansOrEvaluates mem i waits
-  link_leans t {waits = true} w = on_link (says_link mem i e t) (link_inside t, sym w)
-  link_leans t {waits = false} w =
-      let (τ, d) = m.evaluates c.a (sym w) in
-      (τ, ev_link (says_link mem i e t) d)
+  pub link_leans : {j : ℕ} → x ≡ Link j → {waits : Bool} → waits ≡ unmarked mem j → LeansOrEvaluates mem i waits
+  link_leans t {waits = true} w = on_link (says mem i e t) (link_inside t, sym w)
+  link_leans {j} t {waits = false} w =
+      let (τ, d) = m.evaluates j (sym w) in
+      (τ, ev_link (says mem i e t) d)
 
-  pub arrow_leans_left : c.tag ≡ 5 → unmarked mem c.a ≡ true → LeansOrEvaluates mem i true
-  arrow_leans_left t w = on_left (says_arrow mem i e t) ((arrow_inside t).0, w)
+  pub arrow_leans_left : {l r : ℕ} → x ≡ Arrow l r → unmarked mem l ≡ true → LeansOrEvaluates mem i true
+  arrow_leans_left t w = on_left (says mem i e t) ((arrow_inside t).0, w)
 
-  pub arrow_leans_right : c.tag ≡ 5 → unmarked mem c.a ≡ false → {waits : Bool} → waits ≡ unmarked mem c.b → LeansOrEvaluates mem i waits
-  arrow_leans_right t marked {waits = true} w = on_right (says_arrow mem i e t) ((arrow_inside t).1, sym w)
-  arrow_leans_right t marked {waits = false} w =
-      let (τ₁, d₁) = m.evaluates c.a marked in
-      let (τ₂, d₂) = m.evaluates c.b (sym w) in
-      (τ₁ ⇒ τ₂, ev_arrow (says_arrow mem i e t) d₁ d₂)
+  pub arrow_leans_right : {l r : ℕ} → x ≡ Arrow l r → unmarked mem l ≡ false → {waits : Bool} → waits ≡ unmarked mem r → LeansOrEvaluates mem i waits
+  arrow_leans_right t marked {waits = true} w = on_right (says mem i e t) ((arrow_inside t).1, sym w)
+  arrow_leans_right {l} {r} t marked {waits = false} w =
+      let (τ₁, d₁) = m.evaluates l marked in
+      let (τ₂, d₂) = m.evaluates r (sym w) in
+      (τ₁ ⇒ τ₂, ev_arrow (says mem i e t) d₁ d₂)
 
-  pub other_evaluates : c.tag ≢ 1 → c.tag ≢ 5 → LeansOrEvaluates mem i false
-  other_evaluates no_link no_arrow = go (store_of mem i) refl (says_tag m.ready.sound i ∙ ap (λ x. x.tag) (sym e))
+  pub other_evaluates : tag x ≢ 1 → tag x ≢ 5 → LeansOrEvaluates mem i false
+  other_evaluates no_link no_arrow = go x refl no_link no_arrow
     where
-      go : (x : Cell) → store_of mem i ≡ x → tag (store_of mem i) ≡ c.tag → Evaluates mem i
-      go free says t = (var i, ev_free says)
-      go (link j) says t = absurd (no_link (sym t ∙ ap tag says))
-      go unit_cell says t = (unit, ev_unit says)
-      go bool_cell says t = (bool, ev_bool says)
-      go int_cell says t = (int, ev_int says)
-      go (arrow_cell l r) says t = absurd (no_arrow (sym t ∙ ap tag says))
+      go : (c : TypeCell) → x ≡ c → tag c ≢ 1 → tag c ≢ 5 → Evaluates mem i
+      go Free is n n' = (var i, ev_free (says mem i e is))
+      go (Link j) is n n' = absurd (n refl)
+      go UnitType is n n' = (unit, ev_unit (says mem i e is))
+      go BoolType is n n' = (bool, ev_bool (says mem i e is))
+      go IntType is n n' = (int, ev_int (says mem i e is))
+      go (Arrow l r) is n n' = absurd (n' refl)
 
 -- ---- Progress
 
@@ -94,11 +95,11 @@ module _ {mem : List ℕ} {i : ℕ} (at : MarkingAt mem i) where
   visit_leaning leans = progress_none at.marking (λ j e waits. rw e leans)
 
 -- Two visits more, the first of cell i.
-pub pass_on : {E : ℕ → Type 0} {a b c d : List ℕ} {i new up down : ℕ} → Progress (λ j. j < i) a b new → Progress (λ j. j ≡ i) b c up → Progress E c d down → Progress (λ j. j < i + 1) a d (new + up + down)
-pass_on {E} {i} p q r = progress_within (λ j h. inl (here j h (ℕ_discrete j i))) (progress_then (progress_then p q) r)
+pub pass_on : {E : ℕ → Type 0} {a b c d : List ℕ} {i new up down : ℕ} → Progress (λ j. j < i) a b new → Progress (λ j. j ≡ i) b c up → Progress E c d down → Progress (λ j. j < i + 1) a d (new + (up + down))
+pass_on {E} {i} p q r = progress_within (λ j h. here j h (ℕ_discrete j i)) (progress_then p (progress_then q r))
   where
-    here : (j : ℕ) → j < i + 1 → Dec (j ≡ i) → (j < i) ⊎ (j ≡ i)
-    here j h (yes e) = inr e
+    here : (j : ℕ) → j < i + 1 → Dec (j ≡ i) → (j < i) ⊎ ((j ≡ i) ⊎ E j)
+    here j h (yes e) = inr (inl e)
     here j h (no n) = inl (omega arith)
 
 -- One mark.
@@ -207,7 +208,7 @@ module _ {before : List ℕ} (n : ℕ) (whole : length before ≡ 5 * n) where
           go (yes h) =
               let same_length = s.same.same_length in
               s.marking.evaluates i (count_none (unmarked mem) (cells_in mem) (s.counted ∙ none_left) i (omega arith))
-          go (no h) = (var i, ev_free (says_free mem i refl (past_the_end mem n (s.same.same_length ∙ whole) (5 * i) (omega arith))))
+          go (no h) = (var i, ev_free (says mem i refl (let none = past_the_end mem n (s.same.same_length ∙ whole) (5 * i) (omega arith) in rw none refl)))
 
 -- What was tested after a change of marks was tested before it.
 pub tested_since : {before start after : List ℕ} {ok : Bool} → SameCells before start → GroundTested start after ok → GroundTested before after ok

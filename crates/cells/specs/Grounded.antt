@@ -5,19 +5,21 @@ use Rattle.std.proofs.Common.{sym, ◌∙◌, ap, ap₂, subst, arith}
 use Rattle.std.proofs.Math.Path.{fun_ext}
 use Rattle.language.specs.Ty.{Ty, unit, bool, int, ◌⇒◌, var, Subst, apply, compose, MoreGeneral}
 use Rattle.language.specs.Unification.{size}
-use Rattle.cells.specs.Cells.{Cell, free, link, unit_cell, bool_cell, int_cell, arrow_cell, Store, Fits, Sat, Ev, ev_free, ev_link, ev_unit, ev_bool, ev_int, ev_arrow, Grounds}
+use Rattle.cells.specs.Cells.{Store, Fits, Sat, Ev, ev_free, ev_link, ev_unit, ev_bool, ev_int, ev_arrow, Grounds}
 use Rattle.cells.specs.CellSteps.{fits_at}
+use Rattle.cells.specs.declared.TypeCell.{TypeCell}
+use Rattle.cells.specs.declared.TypeCell.TheVariants.{Free, Link, UnitType, BoolType, IntType, Arrow}
 
 -- ---- Evaluation
 
 -- What it is that cell i evaluates to t, if it holds c.
-abbrev pub EvAt : Store → ℕ → Cell → Ty → Type 0
-EvAt σ i free t = t ≡ var i
-EvAt σ i (link j) t = Ev σ j t
-EvAt σ i unit_cell t = t ≡ unit
-EvAt σ i bool_cell t = t ≡ bool
-EvAt σ i int_cell t = t ≡ int
-EvAt σ i (arrow_cell l r) t = (t₁ t₂ : Ty) × Ev σ l t₁ × Ev σ r t₂ × (t ≡ t₁ ⇒ t₂)
+abbrev pub EvAt : Store → ℕ → TypeCell → Ty → Type 0
+EvAt σ i Free t = t ≡ var i
+EvAt σ i (Link j) t = Ev σ j t
+EvAt σ i UnitType t = t ≡ unit
+EvAt σ i BoolType t = t ≡ bool
+EvAt σ i IntType t = t ≡ int
+EvAt σ i (Arrow l r) t = (t₁ t₂ : Ty) × Ev σ l t₁ × Ev σ r t₂ × (t ≡ t₁ ⇒ t₂)
 
 ev_own : {σ : Store} {i : ℕ} {t : Ty} → Ev σ i t → EvAt σ i (σ i) t
 ev_own (ev_free e) = rw e refl
@@ -27,8 +29,8 @@ ev_own (ev_bool e) = rw e refl
 ev_own (ev_int e) = rw e refl
 ev_own (ev_arrow {t₁ = t₁} {t₂ = t₂} e d₁ d₂) = rw e (t₁, t₂, d₁, d₂, refl)
 
-pub ev_at : {σ : Store} {i : ℕ} {c : Cell} {t : Ty} → σ i ≡ c → Ev σ i t → EvAt σ i c t
-ev_at {σ} {i} {t} e d = subst (λ (c : Cell). EvAt σ i c t) e (ev_own d)
+pub ev_at : {σ : Store} {i : ℕ} {c : TypeCell} {t : Ty} → σ i ≡ c → Ev σ i t → EvAt σ i c t
+ev_at {σ} {i} {t} e d = subst (λ (c : TypeCell). EvAt σ i c t) e (ev_own d)
 
 pub ev_unique : {σ : Store} {i : ℕ} {t t' : Ty} → Ev σ i t → Ev σ i t' → t ≡ t'
 ev_unique (ev_free e) d = sym (ev_at e d)
@@ -56,13 +58,13 @@ module _ {γ : Subst} {σ : Store} (g : Grounds γ σ) where
   pub grounded_satisfies : Sat γ σ
   grounded_satisfies = record { at = λ i. fits i (σ i) (ev_own (g.at i)) }
     where
-      fits : (i : ℕ) (c : Cell) → EvAt σ i c (γ i) → Fits γ i c
-      fits i free v = tt
-      fits i (link j) v = ev_unique v (g.at j)
-      fits i unit_cell v = v
-      fits i bool_cell v = v
-      fits i int_cell v = v
-      fits i (arrow_cell l r) (t₁, t₂, d₁, d₂, q) = q ∙ ap₂ ◌⇒◌ (ev_unique d₁ (g.at l)) (ev_unique d₂ (g.at r))
+      fits : (i : ℕ) (c : TypeCell) → EvAt σ i c (γ i) → Fits γ i c
+      fits i Free v = tt
+      fits i (Link j) v = ev_unique v (g.at j)
+      fits i UnitType v = v
+      fits i BoolType v = v
+      fits i IntType v = v
+      fits i (Arrow l r) (t₁, t₂, d₁, d₂, q) = q ∙ ap₂ ◌⇒◌ (ev_unique d₁ (g.at l)) (ev_unique d₂ (g.at r))
 
   pub grounded_then_any : {ρ : Subst} → Sat ρ σ → compose γ ρ ≡ ρ
   grounded_then_any s = fun_ext (λ i. sym (ev_most_general s (g.at i)))
@@ -74,13 +76,13 @@ module _ {γ : Subst} {σ : Store} (g : Grounds γ σ) where
 
 -- Links lead down.
 pub record LinksFall (σ : Store) : Type 0 where
-  pub falls : {i j : ℕ} → σ i ≡ link j → j < i
+  pub falls : {i j : ℕ} → σ i ≡ Link j → j < i
 
 -- Cell i cannot be evaluated without a cell of U.
 pub data Leans (σ : Store) (U : ℕ → Type 0) (i : ℕ) : Type 0 where
-  on_link : {j : ℕ} → σ i ≡ link j → U j → Leans σ U i
-  on_left : {l r : ℕ} → σ i ≡ arrow_cell l r → U l → Leans σ U i
-  on_right : {l r : ℕ} → σ i ≡ arrow_cell l r → U r → Leans σ U i
+  on_link : {j : ℕ} → σ i ≡ Link j → U j → Leans σ U i
+  on_left : {l r : ℕ} → σ i ≡ Arrow l r → U l → Leans σ U i
+  on_right : {l r : ℕ} → σ i ≡ Arrow l r → U r → Leans σ U i
 
 -- The size of a type falls at an arrow, and the number of the cell at a link.
 pub ungrounded_has_none : {ρ : Subst} {σ : Store} {U : ℕ → Type 0} → LinksFall σ → ((i : ℕ) → U i → Leans σ U i) → Sat ρ σ → {i : ℕ} → U i → ⊥

@@ -7,12 +7,13 @@ use Rattle.std.proofs.Math.Dec.{eqb}
 use Rattle.language.specs.Ty.{Subst}
 use Rattle.language.proofs.Count.{count_same}
 use Rattle.cells.specs.Solving.{Rooted, is_link_in, links_in, Shortened}
-use Rattle.cells.specs.Cells.{link, Sat}
-use Rattle.cells.specs.CellSteps.{fits_at, path_shortened}
-use Rattle.cells.specs.Layout.{cell_at, store_of, cells_in, Sound}
-use Rattle.cells.specs.StoreLaws.{link_falls, store_put, sound_put, says_link}
+use Rattle.cells.specs.Cells.{Sat}
+use Rattle.cells.specs.CellSteps.{tag, fits_at, path_shortened}
+use Rattle.cells.specs.Layout.{as_words, cell_at, store_of, cells_in, Sound}
+use Rattle.cells.specs.StoreLaws.{link_falls, store_put, sound_put, says, words_allowed, cell_there, cell_beside}
 use Rattle.cells.specs.Puts.{CellPut}
 use Rattle.cells.specs.declared.TypeCell.{TypeCell}
+use Rattle.cells.specs.declared.TypeCell.TheVariants.{Link}
 
 -- ---- The way
 
@@ -31,21 +32,21 @@ nothing_shortened s inside =
 
 module _ {before after : List ℕ} {i at : ℕ} (w : Shortened before after i at) where
   -- It ends at a root.
-  pub at_root : {x : TypeCell} → x ≡ cell_at after at → x.tag ≢ 1 → Rooted before after i at
+  pub at_root : {x : TypeCell} → x ≡ cell_at after at → tag x ≢ 1 → Rooted before after i at
   at_root x_is no_link = record { way = w; root = record { inside = w.inside; no_link = rw x_is at no_link } }
 
-  module _ {x : TypeCell} (x_is : x ≡ cell_at after at) (linked : x.tag ≡ 1) where
-    at_link : store_of after at ≡ link x.a
-    at_link = says_link after at x_is linked
+  module _ {x : TypeCell} {next : ℕ} (x_is : x ≡ cell_at after at) (linked : x ≡ Link next) where
+    at_link : store_of after at ≡ Link next
+    at_link = says after at x_is linked
 
-    is_linked : (cell_at after at).tag ≡ 1
-    is_linked = ap (λ (y : TypeCell). y.tag) (sym x_is) ∙ linked
+    is_linked : tag (cell_at after at) ≡ 1
+    is_linked = ap tag (sym x_is ∙ linked)
 
-    next_below : x.a < at
+    next_below : next < at
     next_below = link_falls w.sound at x_is linked
 
     -- It goes on to the next cell.
-    pub one_further : Shortened before after i x.a
+    pub one_further : Shortened before after i next
     one_further =
         let down = next_below in
         let so_far = w.inside in
@@ -61,16 +62,16 @@ module _ {before after : List ℕ} {i at : ℕ} (w : Shortened before after i at
         }
 
 -- It goes on past the next cell,
-module _ {before after : List ℕ} {i at : ℕ} (w : Shortened before after i at) {x y : TypeCell} (x_is : x ≡ cell_at after at) (linked : x.tag ≡ 1)
-    (y_is : y ≡ cell_at after x.a) (linked_next : y.tag ≡ 1) where
-  pub past_below : y.a < at
+module _ {before after : List ℕ} {i at : ℕ} (w : Shortened before after i at) {x y : TypeCell} {next past : ℕ} (x_is : x ≡ cell_at after at) (linked : x ≡ Link next)
+    (y_is : y ≡ cell_at after next) (linked_next : y ≡ Link past) where
+  pub past_below : past < at
   past_below =
       let down = next_below w x_is linked in
       let down' = next_below (one_further w x_is linked) y_is linked_next in
       omega arith
 
   -- and the link with it.
-  module _ {shorter : List ℕ} (p : CellPut after shorter at (record { tag = 1; a = y.a; b = 0 })) where
+  module _ {shorter : List ℕ} (p : CellPut after shorter at (as_words (Link past))) where
     kept : (ρ : Subst) → Sat ρ (store_of after) ↔ Sat ρ (store_of shorter)
     kept ρ =
         let down = next_below w x_is linked in
@@ -81,20 +82,20 @@ module _ {before after : List ℕ} {i at : ℕ} (w : Shortened before after i at
     links_same = rw p.same_length (count_same (is_link_in shorter) (is_link_in after) (λ j. go j (ℕ_discrete j at)) (cells_in after))
       where
         go : (j : ℕ) → Dec (j ≡ at) → is_link_in shorter j ≡ is_link_in after j
-        go j (yes e) = rw e (ap (λ (z : TypeCell). eqb z.tag 1) p.there ∙ rw (is_linked w x_is linked) refl)
-        go j (no n) = ap (λ (z : TypeCell). eqb z.tag 1) (p.others j n)
+        go j (yes e) = rw e (ap (λ (z : TypeCell). eqb (tag z) 1) (cell_there p) ∙ rw (is_linked w x_is linked) refl)
+        go j (no n) = ap (λ (z : TypeCell). eqb (tag z) 1) (cell_beside p j n)
 
-    pub link_past : Shortened before shorter i y.a
+    pub link_past : Shortened before shorter i past
     link_past =
         let down = past_below in
         let so_far = w.inside in
         record {
           same_length = p.same_length ∙ w.same_length;
-          sound = sound_put w.sound p (record { tag_known = omega arith; link_down = λ e. down; parts_inside = λ e. absurd (omega arith) });
+          sound = sound_put p w.sound (words_allowed (Link past) down);
           keeps = λ ρ. (λ sat. (kept ρ).0 ((w.keeps ρ).0 sat), λ sat. (w.keeps ρ).1 ((kept ρ).1 sat));
           equal = λ ρ sat. w.equal ρ ((kept ρ).1 sat) ∙ fits_at sat (store_put p).there;
           inside = rw p.same_length (omega arith);
           same_links = links_same ∙ w.same_links;
           pairs = λ k. p.pairs k ∙ w.pairs k;
-          roots = λ k n. p.others k (λ e. n (ap (λ (z : TypeCell). z.tag) (sym (w.roots k n)) ∙ rw e (is_linked w x_is linked))) ∙ w.roots k n;
+          roots = λ k n. cell_beside p k (λ e. n (ap tag (sym (w.roots k n)) ∙ rw e (is_linked w x_is linked))) ∙ w.roots k n;
         }

@@ -1,5 +1,5 @@
 -- The solver's loop: what is demanded of valuations stays the same while cells meet, and its work falls.
-use Rattle.std.specs.Prelude.{ℕ, suc, ◌+◌, ◌-◌, ◌*◌, ◌≤◌, ◌<◌, ◌≡◌, refl, true, false, ◌≢◌, ◌↔◌, List, length}
+use Rattle.std.specs.Prelude.{ℕ, suc, ◌+◌, ◌-◌, ◌*◌, ◌≤◌, ◌<◌, ◌≡◌, refl, ◌≢◌, ◌↔◌, List, length, Option, Some, None, Result, Ok, Err}
 use Rattle.std.proofs.Common.{sym, ◌∙◌, subst, arith, ne_eqb}
 use Rattle.std.proofs.Math.Path.{ap}
 use Rattle.std.proofs.Math.Decide.{ℕ_discrete}
@@ -7,16 +7,18 @@ use Rattle.std.proofs.Math.Dec.{eqb}
 use Rattle.language.specs.Ty.{Subst}
 use Rattle.language.proofs.Count.{count_same, count_but_0}
 use Rattle.cells.specs.Cells.{Sat}
-use Rattle.cells.specs.Layout.{cell_at, pair_at, store_of, cells_in, Sound}
-use Rattle.cells.specs.StoreLaws.{store_beside, sound_beside}
+use Rattle.cells.specs.CellSteps.{tag}
+use Rattle.cells.specs.Layout.{cell_in, cell_at, pair_at, store_of, cells_in, Sound}
+use Rattle.cells.specs.StoreLaws.{link_falls, store_beside, sound_beside}
 use Rattle.cells.specs.Solving.{is_link_in, links_in, Pending, AllEqual, PairsInside, Joined, Meeting}
 use Rattle.cells.specs.Puts.{PairPut}
 use Rattle.cells.specs.Interface.{Outcome}
 use Rattle.cells.specs.Meetings.{meeting_is}
 use Rattle.cells.specs.declared.TypeCell.{TypeCell}
+use Rattle.cells.specs.declared.TypeCell.TheVariants.{Free, Link, UnitType, BoolType, IntType, Arrow}
 use Rattle.cells.specs.declared.memory.Pair.{Pair}
-use Rattle.cells.specs.declared.solve.Encounter.{Encounter}
-use Rattle.cells.specs.declared.solve.Encounter.TheVariants.{Clash, Done, Parts}
+use Rattle.cells.specs.declared.Clash.{Clash}
+use Rattle.cells.specs.declared.solve.Parts.{Parts}
 
 -- ---- Pending pairs
 
@@ -63,18 +65,26 @@ solving_starts s i_in j_in pairs few =
 -- Cell 0 is no link, since links lead down.
 links_few : {mem : List ℕ} → Sound mem → 0 < cells_in mem → links_in mem < cells_in mem
 unfolding links_in
-links_few {mem} s some = count_but_0 (is_link_in mem) (cells_in mem) some (ne_eqb (cell_at mem 0).tag 1 (λ e. let down = (s.allowed 0).link_down e in omega arith))
+links_few {mem} s some = count_but_0 (is_link_in mem) (cells_in mem) some (ne_eqb (tag (cell_at mem 0)) 1 (first_no_link (cell_at mem 0) refl))
+  where
+    first_no_link : (c : TypeCell) → c ≡ cell_at mem 0 → tag c ≢ 1
+    first_no_link Free e = λ is. absurd (omega arith)
+    first_no_link (Link j) e = λ is. let down = link_falls s 0 e refl in omega arith
+    first_no_link UnitType e = λ is. absurd (omega arith)
+    first_no_link BoolType e = λ is. absurd (omega arith)
+    first_no_link IntType e = λ is. absurd (omega arith)
+    first_no_link (Arrow l r) e = λ is. absurd (omega arith)
 
-module _ {before mem after : List ℕ} {i j pending a b left : ℕ} {met : Encounter} (r : Running before i j pending mem a b left) (meeting : Meeting mem after a b met) where
+module _ {before mem after : List ℕ} {i j pending a b left : ℕ} {met : Result (Option Parts) Clash} (r : Running before i j pending mem a b left) (meeting : Meeting mem after a b met) where
   pub lengths : length after ≡ length before
   lengths = meeting.same_length ∙ r.same_length
 
-  pub solving_clashes : met ≡ Clash → Outcome before after (AllEqual before i j pending) false
+  pub solving_clashes : {e e' : Clash} → met ≡ Err e → Outcome before after (AllEqual before i j pending) (Err e')
   solving_clashes told =
       let m = meeting_is meeting told in
       record { same_length = lengths; says = λ ρ h d. let (h', (e, p)) = (r.keeps ρ).0 (h, d) in m.says ρ h' e }
 
-  module _ (told : met ≡ Done) where
+  module _ (told : met ≡ Ok None) where
     joined : Joined mem after a b (λ ρ. Unit)
     joined = (meeting_is meeting told).says.0
 
@@ -92,7 +102,7 @@ module _ {before mem after : List ℕ} {i j pending a b left : ℕ} {met : Encou
           (r.keeps ρ).1 (h', (e, pending_kept (λ k. sym (joined.pairs k)) p)),
     )
 
-    pub solved : left ≡ 0 → Outcome before after (AllEqual before i j pending) true
+    pub solved : {u : Unit {0}} → left ≡ 0 → Outcome before after (AllEqual before i j pending) (Ok u)
     solved none =
         record {
           same_length = lengths;
@@ -130,8 +140,8 @@ module _ {before mem after : List ℕ} {i j pending a b left : ℕ} {met : Encou
           let more = links_kept in
           rw meeting.same_length (omega arith)
 
-  module _ {l l' s s' : ℕ} (told : met ≡ Parts l l' s s') where
-    m : Meeting mem after a b (Parts l l' s s')
+  module _ {parts : Parts} (told : met ≡ Ok (Some parts)) where
+    m : Meeting mem after a b (Ok (Some parts))
     m = meeting_is meeting told
 
     pub room_for_pair : left < cells_in after
@@ -145,7 +155,7 @@ module _ {before mem after : List ℕ} {i j pending a b left : ℕ} {met : Encou
     pub few_pairs : left < 4096
     few_pairs = omega (arith, room_for_pair, m.says.0.sound.small)
 
-    module _ {pushed : List ℕ} (p : PairPut after pushed left (record { left = s; right = s' })) where
+    module _ {pushed : List ℕ} (p : PairPut after pushed left parts.right) where
       pairs_below : (k : ℕ) → k < left → pair_at pushed k ≡ pair_at mem k
       pairs_below k below = p.others k (omega arith) ∙ m.says.0.pairs k
 
@@ -155,9 +165,9 @@ module _ {before mem after : List ℕ} {i j pending a b left : ℕ} {met : Encou
       links_counted : links_in pushed ≡ suc (links_in mem)
       unfolding links_in
       links_counted =
-          rw p.same_length (count_same (is_link_in pushed) (is_link_in after) (λ k. ap (λ (x : TypeCell). eqb x.tag 1) (p.cells k)) (cells_in after)) ∙ m.says.1
+          rw p.same_length (count_same (is_link_in pushed) (is_link_in after) (λ k. ap (λ w. eqb (tag (cell_in w)) 1) (p.cells k)) (cells_in after)) ∙ m.says.1
 
-      pending_more : {ρ : Subst} → (Pending ρ mem left × (ρ s ≡ ρ s')) ↔ Pending ρ pushed (left + 1)
+      pending_more : {ρ : Subst} → (Pending ρ mem left × (ρ parts.right.left ≡ ρ parts.right.right)) ↔ Pending ρ pushed (left + 1)
       pending_more {ρ} = (
         λ (h, e). record { at = λ k below. go h e k (ℕ_discrete k left) below },
         λ h. (
@@ -166,7 +176,7 @@ module _ {before mem after : List ℕ} {i j pending a b left : ℕ} {met : Encou
         ),
       )
         where
-          go : Pending ρ mem left → ρ s ≡ ρ s' → (k : ℕ) → Dec (k ≡ left) → k < left + 1 → ρ (pair_at pushed k).left ≡ ρ (pair_at pushed k).right
+          go : Pending ρ mem left → ρ parts.right.left ≡ ρ parts.right.right → (k : ℕ) → Dec (k ≡ left) → k < left + 1 → ρ (pair_at pushed k).left ≡ ρ (pair_at pushed k).right
           go h e k (yes is) below = rw is (subst (λ (x : Pair). ρ x.left ≡ ρ x.right) (sym p.there) e)
           go h e k (no not) below =
               let old : k < left = omega arith in
@@ -182,7 +192,7 @@ module _ {before mem after : List ℕ} {i j pending a b left : ℕ} {met : Encou
               let old : k < left = omega arith in
               subst (λ (x : Pair). (x.left < cells_in pushed) × (x.right < cells_in pushed)) (sym (pairs_below k old)) (rw cells_same (r.pairs_inside.at k old))
 
-      pub parts_first : Running before i j pending pushed l l' (left + 1)
+      pub parts_first : Running before i j pending pushed parts.left.left parts.left.right (left + 1)
       parts_first =
           let few = r.few in
           let counted = links_counted in

@@ -5,25 +5,23 @@ use Rattle.std.proofs.Math.Decide.{ℕ_discrete, dec_lt}
 use Rattle.std.proofs.lemmas.List.{length-replicate}
 use Rattle.std.proofs.Math.ListN.{get_or-eq_default}
 use Rattle.language.specs.Ty.{bool, int, ◌⇒◌, Subst}
-use Rattle.cells.specs.Layout.{Allowed, cell_at, pair_at, no_pair, cell_of, store_of, cells_in, Sound}
-use Rattle.cells.specs.StoreLaws.{sayable_allowed, base_sayable, arrow_sayable, store_is}
+use Rattle.cells.specs.Layout.{words_at, cell_in, as_words, MaySay, Allowed, pair_at, no_pair, store_of, cells_in, Sound}
+use Rattle.cells.specs.StoreLaws.{cell_back, words_allowed}
 use Rattle.cells.specs.Cells.{Fits, Sat}
 use Rattle.cells.specs.CellSteps.{fits_at}
 use Rattle.cells.specs.Puts.{CellPut}
 use Rattle.cells.specs.Interface.{constants, new_cell, Started}
 use Rattle.cells.specs.declared.memory.Pair.{Pair}
-use Rattle.cells.specs.declared.TypeCell.{TypeCell}
+use Rattle.cells.specs.declared.TypeCell.TheVariants.{Free}
+use Rattle.cells.specs.declared.memory.Words.{Words}
 
 -- ---- One after the other
-
-abbrev free_cell : TypeCell
-free_cell = record { tag = 0; a = 0; b = 0 }
 
 -- The first k are new ones, and the others are free.
 pub record StartedBelow (before after : List ℕ) (k : ℕ) : Type 0 where
   pub same_length : length after ≡ length before
-  pub new : (i : ℕ) → i < k → cell_at after i ≡ new_cell i
-  pub others : (i : ℕ) → k ≤ i → cell_at after i ≡ free_cell
+  pub new : (i : ℕ) → i < k → words_at after i ≡ as_words (new_cell i)
+  pub others : (i : ℕ) → k ≤ i → words_at after i ≡ as_words Free
   pub pairs : (i : ℕ) → pair_at after i ≡ no_pair
 
 zero_everywhere : (m k : ℕ) → ◌≡◌ {A = ℕ} (get_or (replicate m 0) k 0) 0
@@ -42,7 +40,7 @@ cleared_first {before} {after} is = record {
     word : (k : ℕ) → ◌≡◌ {A = ℕ} (get_or (replicate (length before) 0) k 0) 0
     word = zero_everywhere (length before)
 
-pub one_started : {before mem after : List ℕ} {k : ℕ} → StartedBelow before mem k → CellPut mem after k (new_cell k) → StartedBelow before after (suc k)
+pub one_started : {before mem after : List ℕ} {k : ℕ} → StartedBelow before mem k → CellPut mem after k (as_words (new_cell k)) → StartedBelow before after (suc k)
 one_started {after} {k} s p = record {
   same_length = p.same_length ∙ s.same_length;
   new = λ i h. go i h (ℕ_discrete i k);
@@ -50,31 +48,31 @@ one_started {after} {k} s p = record {
   pairs = λ i. p.pairs i ∙ s.pairs i;
 }
   where
-    go : (i : ℕ) → i < suc k → Dec (i ≡ k) → cell_at after i ≡ new_cell i
+    go : (i : ℕ) → i < suc k → Dec (i ≡ k) → words_at after i ≡ as_words (new_cell i)
     go i h (yes e) = rw e p.there
     go i h (no n) = p.others i n ∙ s.new i (omega arith)
 
 pub all_started : {before after : List ℕ} → StartedBelow before after 4 → Started before after
 all_started {after} s = record { same_length = s.same_length; cells = λ i. go i (dec_lt i 4); pairs = s.pairs }
   where
-    go : (i : ℕ) → Dec (i < 4) → cell_at after i ≡ new_cell i
+    go : (i : ℕ) → Dec (i < 4) → words_at after i ≡ as_words (new_cell i)
     go i (yes h) = s.new i h
     go i (no h) =
         let past : 4 ≤ i = omega arith in
-        s.others i past ∙ sym (get_or-eq_default constants free_cell past)
+        s.others i past ∙ ap as_words (sym (get_or-eq_default constants Free past))
 
 -- ---- Their words are determined
 
 -- Every word is one of a cell or of a pair.
-same_words : {a b : List ℕ} → length a ≡ length b → ((i : ℕ) → cell_at a i ≡ cell_at b i) → ((i : ℕ) → pair_at a i ≡ pair_at b i) → a ≡ b
+same_words : {a b : List ℕ} → length a ≡ length b → ((i : ℕ) → words_at a i ≡ words_at b i) → ((i : ℕ) → pair_at a i ≡ pair_at b i) → a ≡ b
 same_words {a} {b} same cells pairs = ext_get_or 0 a b same (λ k h. word k (k / 5) (k % 5) (omega arith) (omega arith))
   where
     word : (k i r : ℕ) → k ≡ 5 * i + r → r < 5 → get_or a k 0 ≡ get_or b k 0
     word k i zero e h =
         let at : k ≡ 5 * i = omega arith in
-        rw at (ap (λ (c : TypeCell). c.tag) (cells i))
-    word k i (suc zero) e h = rw e (ap (λ (c : TypeCell). c.a) (cells i))
-    word k i (suc (suc zero)) e h = rw e (ap (λ (c : TypeCell). c.b) (cells i))
+        rw at (ap (λ (w : Words). w.tag) (cells i))
+    word k i (suc zero) e h = rw e (ap (λ (w : Words). w.a) (cells i))
+    word k i (suc (suc zero)) e h = rw e (ap (λ (w : Words). w.b) (cells i))
     word k i (suc (suc (suc zero))) e h = rw e (ap (λ (p : Pair). p.left) (pairs i))
     word k i (suc (suc (suc (suc zero)))) e h = rw e (ap (λ (p : Pair). p.right) (pairs i))
     word k i (suc (suc (suc (suc (suc r))))) e h = absurd (omega arith)
@@ -91,23 +89,24 @@ pub record Constants (ρ : Subst) : Type 0 where
   pub to_int : ρ 2 ≡ int ⇒ int
   pub to_bool : ρ 3 ≡ int ⇒ bool
 
-new_allowed : {n : ℕ} → 3 < n → (i : ℕ) → Allowed n i (new_cell i)
-new_allowed h zero = sayable_allowed (base_sayable (omega arith) (omega arith)) 0
-new_allowed h (suc zero) = sayable_allowed (base_sayable (omega arith) (omega arith)) 1
-new_allowed h (suc (suc zero)) = sayable_allowed (arrow_sayable (omega arith) (omega arith)) 2
-new_allowed h (suc (suc (suc zero))) = sayable_allowed (arrow_sayable (omega arith) (omega arith)) 3
-new_allowed h (suc (suc (suc (suc i)))) = record { tag_known = omega arith; link_down = λ e. absurd (omega arith); parts_inside = λ e. absurd (omega arith) }
+new_may_say : {n : ℕ} → 3 < n → (i : ℕ) → MaySay n i (new_cell i)
+new_may_say h zero = tt
+new_may_say h (suc zero) = tt
+new_may_say h (suc (suc zero)) = (omega arith, omega arith)
+new_may_say h (suc (suc (suc zero))) = (omega arith, omega arith)
+new_may_say h (suc (suc (suc (suc i)))) = tt
 
 module _ {before after : List ℕ} (s : Started before after) where
   pub started_sound : length before ≡ 5 * cells_in before → 3 < cells_in before → cells_in before ≤ 4096 → Sound after
   started_sound whole enough few = record {
     whole = rw s.same_length whole;
     small = rw s.same_length few;
-    allowed = λ i. rw s.same_length (subst (Allowed (cells_in before) i) (sym (s.cells i)) (new_allowed enough i));
+    allowed = λ i. rw s.same_length (subst (Allowed (cells_in before) i) (sym (s.cells i)) (words_allowed (new_cell i) (new_may_say enough i)));
   }
 
-  says : (i : ℕ) → store_of after i ≡ cell_of (new_cell i)
-  says i = store_is after i (sym (s.cells i))
+  says : (i : ℕ) → store_of after i ≡ new_cell i
+  unfolding store_of
+  says i = ap cell_in (s.cells i) ∙ cell_back (new_cell i)
 
   pub started_constants : (ρ : Subst) → Sat ρ (store_of after) ↔ Constants ρ
   started_constants ρ = (to, λ c. record { at = λ i. subst (Fits ρ i) (sym (says i)) (each c i) })
@@ -118,7 +117,7 @@ module _ {before after : List ℕ} (s : Started before after) where
           let n : ρ 1 ≡ int = fits_at sat (says 1) in
           record { bool_is = b; int_is = n; to_int = fits_at sat (says 2) ∙ ap₂ ◌⇒◌ n n; to_bool = fits_at sat (says 3) ∙ ap₂ ◌⇒◌ n b }
 
-      each : Constants ρ → (i : ℕ) → Fits ρ i (cell_of (new_cell i))
+      each : Constants ρ → (i : ℕ) → Fits ρ i (new_cell i)
       each c zero = c.bool_is
       each c (suc zero) = c.int_is
       each c (suc (suc zero)) = c.to_int ∙ sym (ap₂ ◌⇒◌ c.int_is c.int_is)

@@ -1,11 +1,12 @@
 -- The written type of a cell: how long it is, and what is written where.
-use Rattle.std.specs.Prelude.{ℕ, suc, ◌+◌, ◌-◌, ◌≤◌, ◌<◌, ◌≡◌, Bool, not, cond, ◌≢◌, List, [], ◌∷◌, eqb, length}
+use Rattle.std.specs.Prelude.{ℕ, suc, ◌+◌, ◌-◌, ◌≤◌, ◌<◌, ◌≡◌, Bool, not, cond, ◌≢◌, List, [], ◌∷◌, eqb, length, Option, Some, None, IfSome}
 use Rattle.std.proofs.lemmas.List.Edits.{sets}
 use Rattle.language.specs.Ty.{Ty}
 use Rattle.language.specs.Unification.{size}
 use Rattle.language.specs.WrittenForm.{is_among, appearing, place_in, spell}
 use Rattle.language.proofs.Count.{count}
 use Rattle.cells.specs.Cells.{Ev}
+use Rattle.cells.specs.CellSteps.{tag}
 use Rattle.cells.specs.Layout.{cell_at, pair_at, cells_in, store_of, Sound}
 use Rattle.cells.specs.declared.write.Rest.{Rest}
 use Rattle.cells.specs.declared.write.Word.{Word}
@@ -15,13 +16,18 @@ use Rattle.cells.specs.declared.write.Word.{Word}
 -- Cell r is no link, and evaluates as cell i does.
 pub record Root (cells : List ℕ) (i r : ℕ) : Type 0 where
   pub below : r ≤ i
-  pub no_link : (cell_at cells r).tag ≢ 1
+  pub no_link : tag (cell_at cells r) ≢ 1
   pub same : (τ : Ty) → Ev (store_of cells) i τ → Ev (store_of cells) r τ
 
--- What is left of the room after the words of cell i's type, 0 if it has as many or more.
-pub record Measured (cells : List ℕ) (i room left : ℕ) : Type 0 where
-  pub no_more : left ≤ room
-  pub takes : (τ : Ty) → Ev (store_of cells) i τ → left ≡ room - size τ
+-- So much is left of the room after so many words, or they have no room.
+abbrev pub Leaves : ℕ → ℕ → Option ℕ → Type 0
+Leaves room words (Some left) = words + left ≡ room
+Leaves room words None = room < words
+
+-- What is left of the room after the words of cell i's type, if it has no more. Even a cell without a type leaves no more than there was.
+pub record Measured (cells : List ℕ) (i room : ℕ) (left : Option ℕ) : Type 0 where
+  pub no_more : IfSome left (λ l. l ≤ room)
+  pub takes : (τ : Ty) → Ev (store_of cells) i τ → Leaves room (size τ) left
 
 -- ---- Numbering
 
@@ -58,8 +64,8 @@ words_after seen τ = spell (place_in (appearing seen τ)) τ
 -- A cell of a base type or a variable.
 pub record LeafCell (cells : List ℕ) (r : ℕ) : Type 0 where
   pub inside : r < cells_in cells
-  pub no_link : (cell_at cells r).tag ≢ 1
-  pub no_arrow : (cell_at cells r).tag ≢ 5
+  pub no_link : tag (cell_at cells r) ≢ 1
+  pub no_arrow : tag (cell_at cells r) ≢ 5
 
 -- The type has this one word, and its variable is numbered.
 pub record OneWord (seen : List ℕ) (τ : Ty) (after : List ℕ) (w : Word) : Type 0 where
@@ -76,8 +82,8 @@ pub record WordsPut (seen : List ℕ) (τ : Ty) (left : ℕ) (before after cells
   pub numbers : Numbers cells rest.numbered (appearing seen τ)
   pub put : after ≡ sets before (length before - left) (words_after seen τ)
 
-pub record Wrote (cells : List ℕ) (i : ℕ) (out : List ℕ) (left numbered : ℕ) (cells' out' : List ℕ) (rest : Rest) : Type 0 where
-  pub kept : Kept cells cells' rest.numbered
-  pub no_more : rest.left ≤ left
+pub record Wrote (cells : List ℕ) (i : ℕ) (out : List ℕ) (rest : Rest) (cells' out' : List ℕ) (rest' : Rest) : Type 0 where
+  pub kept : Kept cells cells' rest'.numbered
+  pub no_more : rest'.left ≤ rest.left
   pub same_length : length out' ≡ length out
-  pub written : (seen : List ℕ) (τ : Ty) → Numbers cells numbered seen → Ev (store_of cells) i τ → size τ ≤ left → WordsPut seen τ left out out' cells' rest
+  pub written : (seen : List ℕ) (τ : Ty) → Numbers cells rest.numbered seen → Ev (store_of cells) i τ → size τ ≤ rest.left → WordsPut seen τ rest.left out out' cells' rest'

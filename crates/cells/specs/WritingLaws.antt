@@ -1,6 +1,6 @@
 -- The words of a cell's type, written part by part.
 use Prim.Native.Nat.{ℕ, suc, ◌+◌, ◌-◌, ◌≤◌, ◌<◌}
-use Rattle.std.specs.Prelude.{◌≡◌, true, false, ◌≢◌, take, set}
+use Rattle.std.specs.Prelude.{◌≡◌, true, false, ◌≢◌, take, set, Some, None}
 use Rattle.std.proofs.Math.Path.{refl, ap}
 use Rattle.std.proofs.Common.{sym, ◌∙◌, subst, add-zero, zero-add, length-append, ne_eqb}
 use mathlib.Core.List.{List, [], ◌∷◌, ◌++◌, append-nil}
@@ -17,13 +17,13 @@ use Rattle.cells.specs.Interface.{Unnumbered, TypeWritten, fits, over, CellWritt
 use Rattle.cells.specs.Cells.{Ev}
 use Rattle.cells.specs.Grounded.{ev_at}
 use Rattle.cells.specs.Layout.{cell_at, pair_at, cells_in, store_of}
-use Rattle.cells.specs.StoreLaws.{parts_inside, store_beside, sound_beside, says_free}
+use Rattle.cells.specs.StoreLaws.{parts_inside, store_beside, sound_beside, says}
 use Rattle.cells.specs.Writing.{Root, Measured, number_in, Numbers, has_number, Ready, Kept, words_after, LeafCell, OneWord, LeafSpelled, WordsPut, Wrote}
 use Rattle.cells.specs.Spelling.{length-spell, size_positive, number_other, appearing_new, number_new, words_new, appearing_old, words_old, words_arrow}
 use Rattle.cells.specs.RootTypes.{parts, LeafType, is_variable, is_unit, is_bool, is_int, leaf_type}
 use Rattle.cells.specs.Puts.{PairPut}
-use Rattle.cells.specs.declared.Written.TheVariants.{Words, TooLong}
 use Rattle.cells.specs.declared.TypeCell.{TypeCell}
+use Rattle.cells.specs.declared.TypeCell.TheVariants.{Free, Link, UnitType, BoolType, IntType, Arrow}
 use Rattle.cells.specs.declared.memory.Pair.{Pair}
 use Rattle.cells.specs.declared.write.Rest.{Rest}
 use Rattle.cells.specs.declared.write.Word.{Word}
@@ -48,25 +48,34 @@ few_numbered {cells} ready = omega (arith, count_bound (has_number cells) (cells
 nothing_written : {cells : List ℕ} {numbered : ℕ} → Ready cells numbered → Kept cells cells numbered
 nothing_written ready = record { ready = ready; same_length = refl; same_store = refl }
 
-base_word : {r tag : ℕ} {τ : Ty} (seen : List ℕ) → tag ≢ 0 → LeafType r tag τ → (words_after seen τ ≡ (tag - 1) ∷ []) × (appearing seen τ ≡ seen)
-unfolding spell appearing
-base_word seen n (is_variable e) = absurd (n e)
-base_word seen n (is_unit e) = rw e (refl, refl)
-base_word seen n (is_bool e) = rw e (refl, refl)
-base_word seen n (is_int e) = rw e (refl, refl)
+-- The word of a base type.
+abbrev pub BaseWord : TypeCell → ℕ → Type 0
+BaseWord UnitType w = w ≡ 1
+BaseWord BoolType w = w ≡ 2
+BaseWord IntType w = w ≡ 3
+BaseWord Free w = ⊥
+BaseWord (Link j) w = ⊥
+BaseWord (Arrow l r) w = ⊥
 
-pub base_spelled : {cells : List ℕ} {numbered r : ℕ} → Ready cells numbered → LeafCell cells r → (cell_at cells r).tag ≢ 0 →
-    LeafSpelled cells numbered r cells (record { word = (cell_at cells r).tag - 1; numbered = numbered })
-base_spelled ready leaf base = record {
+base_word : {r w : ℕ} {c : TypeCell} {τ : Ty} (seen : List ℕ) → BaseWord c w → LeafType r c τ → (words_after seen τ ≡ w ∷ []) × (appearing seen τ ≡ seen)
+unfolding spell appearing
+base_word seen h is_variable = absurd h
+base_word seen h is_unit = rw h (refl, refl)
+base_word seen h is_bool = rw h (refl, refl)
+base_word seen h is_int = rw h (refl, refl)
+
+pub base_spelled : {cells : List ℕ} {numbered r w : ℕ} {x : TypeCell} → Ready cells numbered → LeafCell cells r → x ≡ cell_at cells r → BaseWord x w →
+    LeafSpelled cells numbered r cells (record { word = w; numbered = numbered })
+base_spelled ready leaf e base = record {
   kept = nothing_written ready;
   spelled = λ seen τ numbers d.
-      let (is, same) = base_word seen base (leaf_type ready.sound leaf d) in
+      let (is, same) = base_word seen base (leaf_type e leaf d) in
       record { is = is; numbers = rw same numbers };
 }
 
-module _ {cells : List ℕ} {numbered r : ℕ} (ready : Ready cells numbered) (free : (cell_at cells r).tag ≡ 0) where
+module _ {cells : List ℕ} {numbered r : ℕ} (ready : Ready cells numbered) (free : cell_at cells r ≡ Free) where
   variable_type : {τ : Ty} → Ev (store_of cells) r τ → τ ≡ var r
-  variable_type d = ev_at (says_free cells r refl free) d
+  variable_type d = ev_at (says cells r refl free) d
 
   pub old_spelled : (pair_at cells r).right ≢ 0 → LeafSpelled cells numbered r cells (record { word = (pair_at cells r).right + 15; numbered = numbered })
   old_spelled has = record { kept = nothing_written ready; spelled = λ seen τ numbers d. rw (variable_type d) (one seen numbers) }
@@ -123,7 +132,7 @@ module _ {cells : List ℕ} {numbered r : ℕ} (ready : Ready cells numbered) (f
 
 -- ---- Writing
 
-pub wrote_none : {cells out : List ℕ} {i left numbered : ℕ} → Ready cells numbered → left ≡ 0 → Wrote cells i out left numbered cells out (record { left = left; numbered = numbered })
+pub wrote_none : {cells out : List ℕ} {i : ℕ} {rest : Rest} → Ready cells rest.numbered → rest.left ≡ 0 → Wrote cells i out rest cells out rest
 wrote_none ready none = record {
   kept = nothing_written ready;
   no_more = omega arith;
@@ -131,46 +140,52 @@ wrote_none ready none = record {
   written = λ seen τ numbers d fits. absurd (omega (arith, size_positive τ));
 }
 
-pub leaf_wrote : {cells cells' : List ℕ} (out : List ℕ) {r left numbered : ℕ} (at : ℕ) {w : Word} → left ≢ 0 → at + left ≡ length out → LeafSpelled cells numbered r cells' w →
-    Wrote cells r out left numbered cells' (set out at w.word) (record { left = left - 1; numbered = w.numbered })
-leaf_wrote out {left = left} at some place leaf = record {
+pub leaf_wrote : {cells cells' : List ℕ} (out : List ℕ) {r : ℕ} {rest : Rest} {w : Word} → rest.left ≢ 0 → LeafSpelled cells rest.numbered r cells' w →
+    Wrote cells r out rest cells' (set out (length out - rest.left) w.word) (record { left = rest.left - 1; numbered = w.numbered })
+leaf_wrote out {rest = rest} some leaf = record {
   kept = leaf.kept;
   no_more = omega arith;
   same_length = length-set out _ _;
   written = λ seen τ numbers d fits.
       let one = leaf.spelled seen τ numbers d in
       let size_one : size τ ≡ 1 = sym (length-spell _ τ) ∙ ap length one.is in
-      let here : length out - left ≡ at = omega arith in
-      record { taken = omega arith; numbers = one.numbers; put = rw (one.is, here) refl };
+      record { taken = omega arith; numbers = one.numbers; put = rw one.is refl };
 }
 
 -- The words of a cell are its root's.
-pub root_wrote : {cells cells' out out' : List ℕ} {i r left numbered : ℕ} {rest : Rest} → Root cells i r → Wrote cells r out left numbered cells' out' rest → Wrote cells i out left numbered cells' out' rest
+pub root_wrote : {cells cells' out out' : List ℕ} {i r : ℕ} {rest rest' : Rest} → Root cells i r → Wrote cells r out rest cells' out' rest' → Wrote cells i out rest cells' out' rest'
 root_wrote root w = record { kept = w.kept; no_more = w.no_more; same_length = w.same_length; written = λ seen τ numbers d. w.written seen τ numbers (root.same τ d) }
 
-module _ {cells : List ℕ} {i r left numbered : ℕ} (some : left ≢ 0) (root : Root cells i r) where
-  module _ {c : TypeCell} {cells₁ cells₂ out₂ out₃ : List ℕ} {first rest : Rest} (out : List ℕ) (fits : left ≤ length out) (at_root : c ≡ cell_at cells r) (arrow : c.tag ≡ 5)
-      (wrote₁ : Wrote cells c.a (set out (length out - left) 4) (left - 1) numbered cells₁ out₂ first)
-      (wrote₂ : Wrote cells₁ c.b out₂ first.left first.numbered cells₂ out₃ rest) where
+-- An arrow's own word is the first.
+abbrev after_arrow : List ℕ → Rest → List ℕ
+after_arrow out rest = set out (length out - rest.left) 4
+
+abbrev rest_of_arrow : Rest → Rest
+rest_of_arrow rest = record { left = rest.left - 1; numbered = rest.numbered }
+
+module _ {cells : List ℕ} {i r : ℕ} {rest : Rest} (some : rest.left ≢ 0) (root : Root cells i r) where
+  module _ {x : TypeCell} {p q : ℕ} {cells₁ cells₂ out₂ out₃ : List ℕ} {rest₁ rest₂ : Rest} (out : List ℕ) (fits : rest.left ≤ length out) (at_root : x ≡ cell_at cells r) (arrow : x ≡ Arrow p q)
+      (wrote₁ : Wrote cells p (after_arrow out rest) (rest_of_arrow rest) cells₁ out₂ rest₁)
+      (wrote₂ : Wrote cells₁ q out₂ rest₁ cells₂ out₃ rest₂) where
     out_length : length out₂ ≡ length out
     out_length = wrote₁.same_length ∙ length-set out _ _
 
-    parts_put : (seen : List ℕ) (t₁ t₂ : Ty) → Numbers cells numbered seen → Ev (store_of cells) c.a t₁ → Ev (store_of cells) c.b t₂ → size (t₁ ⇒ t₂) ≤ left →
-        WordsPut seen (t₁ ⇒ t₂) left out out₃ cells₂ rest
+    parts_put : (seen : List ℕ) (t₁ t₂ : Ty) → Numbers cells rest.numbered seen → Ev (store_of cells) p t₁ → Ev (store_of cells) q t₂ → size (t₁ ⇒ t₂) ≤ rest.left →
+        WordsPut seen (t₁ ⇒ t₂) rest.left out out₃ cells₂ rest₂
     unfolding size appearing
     parts_put seen t₁ t₂ numbers d₁ d₂ enough =
         let put₁ = wrote₁.written seen t₁ numbers d₁ (omega arith) in
         let taken₁ = put₁.taken in
-        let put₂ = wrote₂.written (appearing seen t₁) t₂ put₁.numbers (subst (λ σ. Ev σ c.b t₂) (sym wrote₁.kept.same_store) d₂) (omega arith) in
-        let next₁ : length (set out (length out - left) 4) - (left - 1) ≡ suc (length out - left) = rw length-set (omega arith) in
-        let next₂ : length out₂ - first.left ≡ suc (length out - left) + length (words_after seen t₁) = rw (out_length, length-spell) (omega arith) in
+        let put₂ = wrote₂.written (appearing seen t₁) t₂ put₁.numbers (subst (λ σ. Ev σ q t₂) (sym wrote₁.kept.same_store) d₂) (omega arith) in
+        let next₁ : length (after_arrow out rest) - (rest.left - 1) ≡ suc (length out - rest.left) = rw length-set (omega arith) in
+        let next₂ : length out₂ - rest₁.left ≡ suc (length out - rest.left) + length (words_after seen t₁) = rw (out_length, length-spell) (omega arith) in
         record {
           taken = omega (arith, put₂.taken);
           numbers = put₂.numbers;
-          put = arrow_put out (length out - left) (words_after seen t₁) (words_after (appearing seen t₁) t₂) next₁ next₂ put₁.put put₂.put ∙ ap (sets out (length out - left)) (sym (words_arrow seen t₁ t₂));
+          put = arrow_put out (length out - rest.left) (words_after seen t₁) (words_after (appearing seen t₁) t₂) next₁ next₂ put₁.put put₂.put ∙ ap (sets out (length out - rest.left)) (sym (words_arrow seen t₁ t₂));
         }
 
-    wrote_arrow : Wrote cells i out left numbered cells₂ out₃ rest
+    wrote_arrow : Wrote cells i out rest cells₂ out₃ rest₂
     wrote_arrow = record {
       kept = record {
         ready = wrote₂.kept.ready;
@@ -187,25 +202,25 @@ module _ {cells : List ℕ} {i r left numbered : ℕ} (some : left ≢ 0) (root 
 -- ---- From part to part
 
 -- To write the current cell's type next is to write cell i₀'s, and there is room for no more words than then.
-pub record WritesOn (cells₀ : List ℕ) (i₀ : ℕ) (out₀ : List ℕ) (left₀ numbered₀ : ℕ) (cells : List ℕ) (i : ℕ) (out : List ℕ) (left numbered : ℕ) : Type 0 where
-  pub ready : Ready cells numbered
+pub record WritesOn (cells₀ : List ℕ) (i₀ : ℕ) (out₀ : List ℕ) (rest₀ : Rest) (cells : List ℕ) (i : ℕ) (out : List ℕ) (rest : Rest) : Type 0 where
+  pub ready : Ready cells rest.numbered
   pub inside : i < cells_in cells
-  pub no_more : left ≤ left₀
+  pub no_more : rest.left ≤ rest₀.left
   pub same_length : length out ≡ length out₀
-  pub fits : left ≤ length out
-  pub goes_on : {cells' out' : List ℕ} {rest : Rest} → Wrote cells i out left numbered cells' out' rest → Wrote cells₀ i₀ out₀ left₀ numbered₀ cells' out' rest
+  pub fits : rest.left ≤ length out
+  pub goes_on : {cells' out' : List ℕ} {rest' : Rest} → Wrote cells i out rest cells' out' rest' → Wrote cells₀ i₀ out₀ rest₀ cells' out' rest'
 
-pub writes_at_first : {cells out : List ℕ} {i left numbered : ℕ} → Ready cells numbered → i < cells_in cells → left ≤ length out → WritesOn cells i out left numbered cells i out left numbered
+pub writes_at_first : {cells out : List ℕ} {i : ℕ} {rest : Rest} → Ready cells rest.numbered → i < cells_in cells → rest.left ≤ length out → WritesOn cells i out rest cells i out rest
 writes_at_first ready inside enough = record { ready = ready; inside = inside; no_more = omega arith; same_length = refl; fits = enough; goes_on = λ w. w }
 
 -- At an arrow the left part is written first, and then the right part is next.
-module _ {cells₀ out₀ cells out : List ℕ} {i₀ left₀ numbered₀ i r left numbered : ℕ} {c : TypeCell} (w : WritesOn cells₀ i₀ out₀ left₀ numbered₀ cells i out left numbered)
-    (some : left ≢ 0) (root : Root cells i r) (at_root : c ≡ cell_at cells r) (arrow : c.tag ≡ 5) where
-  pub left_part_ready : Ready cells numbered × (c.a < cells_in cells) × (left - 1 ≤ length (set out (length out - left) 4))
+module _ {cells₀ out₀ cells out : List ℕ} {i₀ i r p q : ℕ} {rest₀ rest : Rest} {x : TypeCell} (w : WritesOn cells₀ i₀ out₀ rest₀ cells i out rest)
+    (some : rest.left ≢ 0) (root : Root cells i r) (at_root : x ≡ cell_at cells r) (arrow : x ≡ Arrow p q) where
+  pub left_part_ready : Ready cells rest.numbered × (p < cells_in cells) × (rest.left - 1 ≤ length (after_arrow out rest))
   left_part_ready = (w.ready, (parts_inside w.ready.sound r at_root arrow).0, simp length-set (omega (arith, w.fits)))
 
-  pub right_part_next : {cells₁ out₁ : List ℕ} {first : Rest} → Wrote cells c.a (set out (length out - left) 4) (left - 1) numbered cells₁ out₁ first →
-      WritesOn cells₀ i₀ out₀ left₀ numbered₀ cells₁ c.b out₁ first.left first.numbered
+  pub right_part_next : {cells₁ out₁ : List ℕ} {rest₁ : Rest} → Wrote cells p (after_arrow out rest) (rest_of_arrow rest) cells₁ out₁ rest₁ →
+      WritesOn cells₀ i₀ out₀ rest₀ cells₁ q out₁ rest₁
   right_part_next {out₁ = out₁} wrote = record {
     ready = wrote.kept.ready;
     inside = rw wrote.kept.same_length (parts_inside w.ready.sound r at_root arrow).1;
@@ -235,13 +250,13 @@ module _ {cells : List ℕ} (unnumbered : Unnumbered cells) where
   unfolding number_in is_among
   none_seen = record { beside = unnumbered.none; as_many = refl }
 
-  pub all_written : (out : List ℕ) {i left count : ℕ} {cells' part : List ℕ} {rest : Rest} → left ≢ 0 → count + left ≡ length out + 1 →
-      Measured cells i (length out + 1) left → Wrote cells i (take count out) count 0 cells' part rest →
-      CellWritten cells i out (part ++ drop count out) (Words count)
+  pub all_written : (out : List ℕ) {i left count : ℕ} {cells' part : List ℕ} {rest : Rest} → count + left ≡ length out →
+      Measured cells i (length out) (Some left) → Wrote cells i (take count out) (record { left = count; numbered = 0 }) cells' part rest →
+      CellWritten cells i out (part ++ drop count out) (Some count)
   unfolding words_of
-  all_written out {i} {left} {count} {part = part} some split measured wrote = record { is = written }
+  all_written out {i} {left} {count} {part = part} split measured wrote = record { is = written }
     where
-      written : (τ : Ty) → Ev (store_of cells) i τ → TypeWritten (words_of τ) out (part ++ drop count out) (Words count)
+      written : (τ : Ty) → Ev (store_of cells) i τ → TypeWritten (words_of τ) out (part ++ drop count out) (Some count)
       written τ d =
           let taken = measured.takes τ d in
           let as_long : length (words_of τ) ≡ count = length-spell _ τ ∙ omega arith in
@@ -251,6 +266,6 @@ module _ {cells : List ℕ} (unnumbered : Unnumbered cells) where
           let all : part ≡ words_of τ = put ∙ rw start (all_put (take count out) (words_of τ) (omega arith)) in
           fits (omega arith) (rw as_long refl) (rw (all, as_long) refl)
 
-pub none_written : (out : List ℕ) {cells : List ℕ} {i left : ℕ} → left ≡ 0 → Measured cells i (length out + 1) left → CellWritten cells i out out TooLong
+pub none_written : (out : List ℕ) {cells : List ℕ} {i : ℕ} → Measured cells i (length out) None → CellWritten cells i out out None
 unfolding words_of
-none_written out none measured = record { is = λ τ d. over (rw length-spell (omega (arith, measured.takes τ d))) refl refl }
+none_written out measured = record { is = λ τ d. over (rw length-spell (omega (arith, measured.takes τ d))) refl refl }

@@ -4,16 +4,15 @@ ghost use Rattle.cells.specs.Layout.{cells_in, Sound};
 ghost use Rattle.cells.specs.Interface.{GroundTested};
 ghost use Rattle.cells.specs.Grounding.{unmarked, UnmarkedBelow, Unmarked, Marking, MarkingAt, LeansOrEvaluates, Progress};
 
+use crate::TypeCell;
 use crate::memory::{Pair, get, put_pair};
 
 pub(crate) fn unmark(cells: &mut [u32], n: u32)
     requires { Sound cells.old × (length cells.old ≡ 5 * n) }
     ensures { UnmarkedBelow cells.old cells.new n }
 {
-    let mut i: u32 = 0;
-    while i < n {
+    for i in 0..n {
         put_pair(cells, i, Pair { left: 0, right: 0 });
-        i += 1;
     }
 }
 
@@ -29,18 +28,11 @@ fn leans(cells: &[u32], i: u32) -> bool
     requires { MarkingAt cells.now i }
     ensures { LeansOrEvaluates cells.now i result }
 {
-    let c = get(cells, i);
-    let tag = c.tag;
-    if tag == 1 {
-        return is_unmarked(cells, c.a);
+    match get(cells, i) {
+        TypeCell::Link(j) => is_unmarked(cells, j),
+        TypeCell::Arrow(l, r) => is_unmarked(cells, l) || is_unmarked(cells, r),
+        _ => false,
     }
-    if tag == 5 {
-        if is_unmarked(cells, c.a) {
-            return true;
-        }
-        return is_unmarked(cells, c.b);
-    }
-    false
 }
 
 // Marks cell i unless it is marked or leans on an unmarked cell. Answers how many cells it marked.
@@ -64,12 +56,10 @@ fn pass(cells: &mut [u32], n: u32) -> u32
     ensures { Progress (λ j. j < n) cells.old cells.new result }
 {
     let mut new: u32 = 0;
-    let mut i: u32 = 0;
-    while i < n {
+    for i in 0..n {
         let up = visit(cells, i);
         let down = visit(cells, n - 1 - i);
-        new = new + up + down;
-        i += 1;
+        new += up + down;
     }
     new
 }

@@ -9,31 +9,30 @@ mod write;
 
 ghost use Rattle.std.specs.Prelude.{◌<◌, ◌≡◌};
 ghost use Rattle.cells.specs.Cells.{Fits};
-ghost use Rattle.cells.specs.Layout.{cell_of, cells_in, Sound};
+ghost use Rattle.cells.specs.Layout.{cells_in, Sound};
 ghost use Rattle.cells.specs.Interface.{Started, Sayable, Outcome, GroundTested, Unnumbered, CellWritten};
 
 use crate::ground::{sweep, unmark};
 use crate::memory::put;
 use crate::solve::{find, say_root, solve};
-use crate::write::measure;
+use crate::write::{Rest, measure, write};
 
-// What is known of a type. Tag 0 is nothing, 1 that it is cell a's, 2 unit, 3 bool, 4 int, 5 an arrow from cell a's to cell b's. Unused
-// fields are of no account.
+// What is known of a type: nothing, that it is a cell's, that it is a base type, or that it is an arrow from the one cell's to the other's.
 #[derive(Clone, Copy)]
-pub struct TypeCell {
-    pub tag: u32,
-    pub a: u32,
-    pub b: u32,
+pub enum TypeCell {
+    Free,
+    Link(u32),
+    UnitType,
+    BoolType,
+    IntType,
+    Arrow(u32, u32),
 }
 
-// What comes of a type that is to be written.
-#[derive(Clone, Copy)]
-pub enum Written {
-    // It has so many words, and they are written.
-    Words(usize),
-    // It has more words than the slice, and none is written.
-    TooLong,
-}
+// No valuation satisfies the cells and what was to be true besides.
+#[derive(Clone, Copy, Debug, PartialEq, Eq)]
+pub struct Clash;
+
+// `Sound` stands in each `requires`, and not in a type that `start` makes: `start` asks its callers for four cells, and must not ask for whole ones.
 
 // All cells are new: 0 to 3 are bool, int, int → int and int → bool, and of the others nothing is known.
 pub fn start(cells: &mut [u32])
@@ -41,23 +40,23 @@ pub fn start(cells: &mut [u32])
     ensures { Started cells.old cells.new }
 {
     lent::clear(cells);
-    put(cells, 0, TypeCell { tag: 3, a: 0, b: 0 });
-    put(cells, 1, TypeCell { tag: 4, a: 0, b: 0 });
-    put(cells, 2, TypeCell { tag: 5, a: 1, b: 1 });
-    put(cells, 3, TypeCell { tag: 5, a: 1, b: 0 });
+    put(cells, 0, TypeCell::BoolType);
+    put(cells, 1, TypeCell::IntType);
+    put(cells, 2, TypeCell::Arrow(1, 1));
+    put(cells, 3, TypeCell::Arrow(1, 0));
 }
 
-// What c says is true of the type of cell i, or false is answered. It is a base type or an arrow.
-pub fn say(cells: &mut [u32], i: u32, c: TypeCell) -> bool
+// What c says is true of the type of cell i, or clashes. It is a base type or an arrow.
+pub fn say(cells: &mut [u32], i: u32, c: TypeCell) -> Result<(), Clash>
     requires { Sound cells.old × (i < cells_in cells.old) × Sayable (cells_in cells.old) c }
-    ensures { Outcome cells.old cells.new (λ ρ. Fits ρ i (cell_of c)) result }
+    ensures { Outcome cells.old cells.new (λ ρ. Fits ρ i c) result }
 {
     let r = find(cells, i);
     say_root(cells, r, c)
 }
 
-// Cells i and j have the same type, or false is answered.
-pub fn join(cells: &mut [u32], i: u32, j: u32) -> bool
+// Cells i and j have the same type, or clash.
+pub fn join(cells: &mut [u32], i: u32, j: u32) -> Result<(), Clash>
     requires { Sound cells.old × (i < cells_in cells.old) × (j < cells_in cells.old) }
     ensures { Outcome cells.old cells.new (λ ρ. ρ i ≡ ρ j) result }
 {
@@ -74,17 +73,18 @@ pub fn grounded(cells: &mut [u32]) -> bool
     sweep(cells, n)
 }
 
-// The type of cell i at the beginning of `out`, if it fits. Its room is one word more than `out`, so that a type that fits leaves some.
-pub fn write_type(cells: &mut [u32], i: u32, out: &mut [u32]) -> Written
+// The type of cell i at the beginning of `out`, if it fits: so many words are written.
+pub fn write_type(cells: &mut [u32], i: u32, out: &mut [u32]) -> Option<usize>
     requires { Unnumbered cells.old × (i < cells_in cells.old) }
     ensures { CellWritten cells.old i out.old out.new result }
 {
-    let room = out.len() + 1;
-    let left = measure(cells, i, room);
-    if left == 0 {
-        return Written::TooLong;
-    }
+    let room = out.len();
+    let left = measure(cells, i, room)?;
     let count = room - left;
-    write::write(cells, &mut out[..count], i, count, 0);
-    Written::Words(count)
+    let all = Rest {
+        left: count,
+        numbered: 0,
+    };
+    write(cells, &mut out[..count], i, all);
+    Some(count)
 }

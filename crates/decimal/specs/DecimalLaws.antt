@@ -1,11 +1,16 @@
--- The digits of a number: how many there are, and that they write it.
-use Rattle.std.specs.Prelude.{ℕ, zero, suc, ◌+◌, ◌/◌, ◌%◌, ◌^◌, ◌≤◌, ◌<◌, ◌≡◌, ◌≢◌, true, List, [], ◌∷◌, ◌++◌, length}
-use Rattle.std.proofs.Common.{◌∙◌, ap, arith, length-append, lt-ltb, le-ltb, le-leb}
-use Rattle.std.proofs.Math.Option.{some}
+-- The digits of a number: that the library prints them, and that they write it.
+use Rattle.std.specs.Prelude.{ℕ, zero, suc, ◌+◌, ◌/◌, ◌%◌, ◌^◌, ◌≤◌, ◌<◌, ◌≡◌, ◌≢◌, true, List, [], ◌∷◌, ◌++◌, length, ℤ, pos, negsuc, Some}
+use Rattle.std.proofs.Common.{sym, ◌∙◌, ap, arith, lt-ltb, le-ltb, le-leb, length-append}
+use Rattle.std.proofs.lemmas.Fmt.{AppendsLastDigit, decimal_from_appends, length-decimal-le_succ}
+use Rattle.std.specs.Fmt.{decimal as printed, signed_decimal as signed_printed}
+use Rattle.std.specs.Int.{w32}
+use Rattle.std.specs.Int.Signed.{mag}
+use Rattle.std.proofs.Common.{Fits, to_z, of_z}
+use Rattle.std.proofs.Math.Facts.{of_z-to_z, sfits_to_z}
 use Rattle.std.proofs.Math.Decide.{dec_lt}
 use Rattle.decimal.specs.Input.{is_digit, all_digits, with_digit, value_of, word_limit, number_of}
 use Rattle.decimal.specs.TokenLaws.{all_digits_append, value_append}
-use Rattle.decimal.specs.Decimal.{digit_byte, digits_within, decimal, NoZeroFirst, first_is}
+use Rattle.decimal.specs.Decimal.{digit_byte, digits_within, decimal, signed_decimal, NoZeroFirst, first_is}
 
 -- ---- The first digit, and the others
 
@@ -26,6 +31,30 @@ one_digit n small = rw (lt-ltb n 10 small)
 pub more_digits : (n : ℕ) → 10 ≤ n → decimal n ≡ decimal (n / 10) ++ digit_byte (n % 10) ∷ []
 unfolding decimal digits_within
 more_digits n large = rw (le-ltb n 10 large, enough n (suc (n / 10)) (n / 10) (omega arith) (omega arith))
+
+-- ---- The library's digits
+
+own_digits : AppendsLastDigit digits_within
+unfolding digits_within
+own_digits = record {
+  one = λ most n small. rw (lt-ltb n 10 small);
+  more = λ most n large. rw (le-ltb n 10 large);
+}
+
+-- What the library prints of a number are these digits.
+pub printed_digits : (n : ℕ) → n < 2 ^ 64 → printed n ≡ decimal n
+unfolding decimal
+printed_digits n h = sym (decimal_from_appends digits_within own_digits (suc n) n h (omega (arith, length-decimal-le_succ n h)))
+
+printed_integer : (z : ℤ) → mag z < 2 ^ 63 → signed_printed z ≡ signed_decimal z
+printed_integer (pos n) h = printed_digits n (omega arith)
+printed_integer (negsuc n) h = rw (printed_digits (suc n) (omega arith))
+
+-- And of a signed number, here one by its pattern.
+pub printed_pattern : (p : ℕ) {z : ℤ} → Fits w32 p → z ≡ to_z w32 p → signed_printed (to_z w32 (of_z w32 z)) ≡ signed_decimal (to_z w32 p)
+printed_pattern p fits is =
+    let small : mag (to_z w32 p) < 2 ^ 63 = omega (arith, (sfits_to_z fits).sfits) in
+    rw (is, of_z-to_z fits) (printed_integer (to_z w32 p) small)
 
 -- ---- How many
 
@@ -70,7 +99,7 @@ decimal_writes (suc most) n h = go (dec_lt n 10) (λ l. decimal_writes most (n /
     go (no large) front = rw (more_digits n (omega arith)) (more_written (decimal (n / 10)) n (front (omega arith)))
 
 -- A printed word is read as that word.
-pub printed_is_read : (n : ℕ) → n < word_limit → number_of (decimal n) ≡ some n
+pub printed_is_read : (n : ℕ) → n < word_limit → number_of (decimal n) ≡ Some n
 printed_is_read n h =
     let written = decimal_writes (suc n) n (omega arith) in
     rw (written.digits, written.value, lt-ltb n word_limit h)

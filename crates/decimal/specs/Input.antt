@@ -1,7 +1,6 @@
 -- An input of decimal words separated by white space.
-use Rattle.std.specs.Prelude.{ℕ, ◌+◌, ◌*◌, ◌-◌, Bool, true, false, cond, ◌&&◌, ◌||◌, eqb, ltb, leb, length}
+use Rattle.std.specs.Prelude.{ℕ, ◌+◌, ◌*◌, ◌-◌, Bool, true, false, cond, ◌&&◌, ◌||◌, eqb, ltb, leb, length, Option, None, Some}
 use mathlib.Core.List.{List, [], ◌∷◌, foldl}
-use Rattle.std.proofs.Math.Option.{Option, none, some}
 
 -- ---- Tokens
 
@@ -54,20 +53,20 @@ word_limit = 4294967296
 
 -- A token of digits is the number that it writes, if that is below 4294967296. No other token is a number.
 abbrev pub number_of : List ℕ → Option ℕ
-number_of token = cond (all_digits token && ltb (value_of token) word_limit) (some (value_of token)) none
+number_of token = cond (all_digits token && ltb (value_of token) word_limit) (Some (value_of token)) None
 
 abbrev pub both : Option ℕ → Option (List ℕ) → Option (List ℕ)
-both none others = none
-both (some n) none = none
-both (some n) (some ns) = some (n ∷ ns)
+both None others = None
+both (Some n) None = None
+both (Some n) (Some ns) = Some (n ∷ ns)
 
 -- The numbers of all tokens, if each is one.
 unfoldable pub numbers_of : List (List ℕ) → Option (List ℕ)
-numbers_of [] = some []
+numbers_of [] = Some []
 numbers_of (token ∷ others) = both (number_of token) (numbers_of others)
 
 -- ---- The words of an input
 
 -- None if a token is no number, or there are more than so many.
 abbrev pub words_in : ℕ → List ℕ → Option (List ℕ)
-words_in most input = cond (leb (length (tokens input)) most) (numbers_of (tokens input)) none
+words_in most input = cond (leb (length (tokens input)) most) (numbers_of (tokens input)) None

@@ -3,6 +3,7 @@
 pub mod Input
 pub mod Scan
 pub mod Decimal
+pub mod Puts
 -- The scan gives the words of the input.
 pub mod TokenLaws
 pub mod ScanIsWordsIn

@@ -1,7 +1,6 @@
 -- The input byte by byte, from the left. The words that are read stand at the beginning of a slice.
-use Rattle.std.specs.Prelude.{ℕ, ◌+◌, Bool, true, false, cond, ltb, length, take, set}
+use Rattle.std.specs.Prelude.{ℕ, ◌+◌, Bool, true, false, cond, ltb, length, take, set, Option, None, Some}
 use mathlib.Core.List.{List, foldl}
-use Rattle.std.proofs.Math.Option.{Option, none, some}
 use Rattle.decimal.specs.Input.{is_space, is_digit, with_digit, word_limit}
 use Rattle.decimal.specs.declared.Scanner.{Scanner}
 use Rattle.decimal.specs.declared.Scanner.TheVariants.{Failed, Between, Inside}
@@ -58,4 +57,4 @@ count_of (Inside count value) = count
 
 -- At the end, these are the words of the input.
 abbrev pub words_at : ScanState → Option (List ℕ)
-words_at (stands s words) = cond (has_failed s) none (some (take (count_of s) words))
+words_at (stands s words) = cond (has_failed s) None (Some (take (count_of s) words))

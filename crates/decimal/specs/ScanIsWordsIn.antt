@@ -1,11 +1,10 @@
 -- The scan from the left gives the words of the whole input.
 use Prim.Native.Nat.{ℕ, suc, ◌+◌, ◌≤◌, ◌<◌}
-use Rattle.std.specs.Prelude.{◌≡◌, Bool, leb, set}
+use Rattle.std.specs.Prelude.{◌≡◌, Bool, leb, set, Option, None, Some}
 use Rattle.std.proofs.Math.Path.{refl, ap}
 use Rattle.std.proofs.Common.{◌∙◌, arith, zero-add}
 use Rattle.std.proofs.Math.Bool.{true, false, cond}
 use mathlib.Core.List.{List, [], ◌∷◌, ◌++◌, foldl, foldl-append, append-nil, append_assoc}
-use Rattle.std.proofs.Math.Option.{Option, none, some}
 use Rattle.std.proofs.Math.Dec.{ltb}
 use Rattle.std.proofs.Math.ListN.{length, length-append}
 use borrow.Author.Tests.{ltb-true, ltb-false, lt-leb, le-leb}
@@ -21,46 +20,46 @@ use Rattle.decimal.specs.declared.Scanner.TheVariants.{Failed, Between, Inside}
 -- ---- Words, and tokens after them
 
 abbrev after : List ℕ → Option (List ℕ) → Option (List ℕ)
-after words none = none
-after words (some numbers) = some (words ++ numbers)
+after words None = None
+after words (Some numbers) = Some (words ++ numbers)
 
 -- The words of an input that begins with those words and goes on with those tokens, if there are at most so many.
 answer : ℕ → List ℕ → List (List ℕ) → Option (List ℕ)
-answer most words others = cond (leb (length words + length others) most) (after words (numbers_of others)) none
+answer most words others = cond (leb (length words + length others) most) (after words (numbers_of others)) None
 
-answer_all : (most : ℕ) (others : List (List ℕ)) → answer most [] others ≡ cond (leb (length others) most) (numbers_of others) none
+answer_all : (most : ℕ) (others : List (List ℕ)) → answer most [] others ≡ cond (leb (length others) most) (numbers_of others) None
 unfolding answer
-answer_all most others = rw zero-add (ap (λ o. cond (leb (length others) most) o none) (go (numbers_of others)))
+answer_all most others = rw zero-add (ap (λ o. cond (leb (length others) most) o None) (go (numbers_of others)))
   where
     go : (o : Option (List ℕ)) → after [] o ≡ o
-    go none = refl
-    go (some words) = refl
+    go None = refl
+    go (Some words) = refl
 
 module _ (most : ℕ) (words : List ℕ) where
-  answer_none : length words ≤ most → some words ≡ answer most words []
+  answer_none : length words ≤ most → Some words ≡ answer most words []
   unfolding answer numbers_of
   answer_none fits = rw (le-leb (length words + 0) most (omega arith), append-nil words)
 
   module _ (token : List ℕ) (others : List (List ℕ)) where
-    answer_full : most ≤ length words → none ≡ answer most words (token ∷ others)
+    answer_full : most ≤ length words → None ≡ answer most words (token ∷ others)
     unfolding answer
     answer_full full = rw (lt-leb (length words + suc (length others)) most (omega arith))
 
-    answer_word : {value : ℕ} → number_of token ≡ some value → answer most (words ++ value ∷ []) others ≡ answer most words (token ∷ others)
+    answer_word : {value : ℕ} → number_of token ≡ Some value → answer most (words ++ value ∷ []) others ≡ answer most words (token ∷ others)
     unfolding answer numbers_of
     answer_word {value} is =
         let same : length (words ++ value ∷ []) + length others ≡ length words + suc (length others) = rw length-append (omega arith) in
-        rw (same, is) (ap (λ o. cond (leb (length words + suc (length others)) most) o none) (go (numbers_of others)))
+        rw (same, is) (ap (λ o. cond (leb (length words + suc (length others)) most) o None) (go (numbers_of others)))
       where
-        go : (o : Option (List ℕ)) → after (words ++ value ∷ []) o ≡ after words (both (some value) o)
-        go none = refl
-        go (some numbers) = ap some (append_assoc words (value ∷ []) numbers)
+        go : (o : Option (List ℕ)) → after (words ++ value ∷ []) o ≡ after words (both (Some value) o)
+        go None = refl
+        go (Some numbers) = ap Some (append_assoc words (value ∷ []) numbers)
 
-    answer_no_number : number_of token ≡ none → none ≡ answer most words (token ∷ others)
+    answer_no_number : number_of token ≡ None → None ≡ answer most words (token ∷ others)
     unfolding answer numbers_of
     answer_no_number is = rw is (go (leb (length words + suc (length others)) most))
       where
-        go : (fits : Bool) → none ≡ cond {A = Option (List ℕ)} fits none none
+        go : (fits : Bool) → None ≡ cond {A = Option (List ℕ)} fits None None
         go true = refl
         go false = refl
 
@@ -84,21 +83,21 @@ module _ {slice₀ words now : List ℕ} {count : ℕ} (holds : Holds slice₀ w
     fits = rw length-append (omega (arith, counted, as_long));
   }
 
-  words_found : words_at (stands (Between count) now) ≡ some words
-  words_found = ap some (first_written holds.written holds.fits)
+  words_found : words_at (stands (Between count) now) ≡ Some words
+  words_found = ap Some (first_written holds.written holds.fits)
 
 -- ---- A token ends
 
 -- Where a scan stands in terms of the token under way.
 abbrev standing : ℕ → Option ℕ → Scanner
-standing count none = Between count
-standing count (some value) = Inside count value
+standing count None = Between count
+standing count (Some value) = Inside count value
 
 other_is : (count : ℕ) (token : Option ℕ) (b : ℕ) → other_read (standing count token) b ≡ in_token count (value_so_far token) b
-other_is count none b = refl
-other_is count (some value) b = refl
+other_is count None b = refl
+other_is count (Some value) b = refl
 
-module _ {slice₀ : List ℕ} (goes_on : ScanState → Option (List ℕ)) (others : List (List ℕ)) (stays : (now : List ℕ) → goes_on (stands Failed now) ≡ none)
+module _ {slice₀ : List ℕ} (goes_on : ScanState → Option (List ℕ)) (others : List (List ℕ)) (stays : (now : List ℕ) → goes_on (stands Failed now) ≡ None)
     (reads : (words now : List ℕ) (count : ℕ) → Holds slice₀ words now count → goes_on (stands (Between count) now) ≡ answer (length slice₀) words (without_empty others)) where
   ends : {words now run : List ℕ} {count : ℕ} {token : Option ℕ} → Holds slice₀ words now count → Begun run token →
       goes_on (space_read (standing count token) now) ≡ answer (length slice₀) words (without_empty (run ∷ others))
@@ -124,15 +123,15 @@ failed_stays words (b ∷ input) = ap (λ s. foldl scan_byte s input) (go (is_sp
     go true = refl
     go false = refl
 
-failed_ends : (words input : List ℕ) → words_at (finish (foldl scan_byte (stands Failed words) input)) ≡ none
+failed_ends : (words input : List ℕ) → words_at (finish (foldl scan_byte (stands Failed words) input)) ≡ None
 failed_ends words input = ap (λ s. words_at (finish s)) (failed_stays words input)
 
 -- A token that begins so is no number.
-refused : (most : ℕ) (words run : List ℕ) (b : ℕ) (input : List ℕ) → number_of (run ++ b ∷ []) ≡ none → none ≡ answer most words (without_empty (joined (run ++ b ∷ []) (runs input)))
+refused : (most : ℕ) (words run : List ℕ) (b : ℕ) (input : List ℕ) → number_of (run ++ b ∷ []) ≡ None → None ≡ answer most words (without_empty (joined (run ++ b ∷ []) (runs input)))
 unfolding without_empty
 refused most words run b input is = go run (some_run input) is
   where
-    go : (run : List ℕ) {others : List (List ℕ)} → Runs others → number_of (run ++ b ∷ []) ≡ none → none ≡ answer most words (without_empty (joined (run ++ b ∷ []) others))
+    go : (run : List ℕ) {others : List (List ℕ)} → Runs others → number_of (run ++ b ∷ []) ≡ None → None ≡ answer most words (without_empty (joined (run ++ b ∷ []) others))
     go [] (runs_are first others) is = rw (joined_first (b ∷ []) first others) (answer_no_number most words _ _ (no_number_longer (b ∷ []) first is))
     go (a ∷ run) (runs_are first others) is = rw (joined_first (a ∷ run ++ b ∷ []) first others) (answer_no_number most words _ _ (no_number_longer (a ∷ run ++ b ∷ []) first is))
 

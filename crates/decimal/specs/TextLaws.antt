@@ -1,44 +1,43 @@
--- Numbers are written into a text.
-use Rattle.std.specs.Prelude.{ℕ, suc, ◌+◌, ◌-◌, ◌*◌, ◌/◌, ◌%◌, ◌≤◌, ◌<◌, ◌≡◌, refl, List, [], ◌∷◌, ◌++◌, map, length, take, get_or, pos}
-use Rattle.std.proofs.Common.{sym, ◌∙◌, ap, append-nil, append_assoc, arith, add-one, take-suc, take_all, to_z, lt-ltb, le-ltb}
+-- What is put into a text, one after the other.
+use Rattle.std.specs.Prelude.{ℕ, suc, ◌+◌, ◌*◌, ◌≤◌, ◌<◌, ◌≡◌, refl, List, [], ◌∷◌, ◌++◌, map, length, take, get_or, pos}
+use Rattle.std.proofs.Common.{sym, ◌∙◌, ap, subst, append-nil, append_assoc, arith, add-one, take-suc, take_all, to_z, lt-ltb}
 use Rattle.std.proofs.lemmas.List.{map-append}
 use Rattle.std.specs.Int.{w32}
-use Rattle.lent.specs.Written.{Written, WrittenWithin}
-use Rattle.lent.specs.WrittenLaws.{written_none, written_then, within_then}
-use Rattle.decimal.specs.Input.{word_limit}
-use Rattle.decimal.specs.Decimal.{digit_byte, decimal, signed_decimal, spaced}
-use Rattle.decimal.specs.DecimalLaws.{one_digit, more_digits, ten_digits}
+use Rattle.lent.specs.WrittenLaws.{written_none, written_then, within_itself, within_more, within_then}
+use Rattle.decimal.specs.Decimal.{decimal, spaced}
+use Rattle.decimal.specs.Puts.{Puts, PutsWithin}
+use Rattle.decimal.specs.declared.text.Text.{Text}
 
--- ---- Digits
+-- ---- One after the other
 
-module _ {n : ℕ} (below : n < word_limit) where
-  pub one_written : {text text' : List ℕ} {at next : ℕ} → n < 10 → Written text at (digit_byte (n % 10) ∷ []) text' next → WrittenWithin 10 text at (decimal n) text' next
-  one_written small w = let same : n % 10 ≡ n = omega arith in record { written = rw (one_digit n small) (rw same at w); few = ten_digits n below }
+pub puts_none : (t : Text) → Puts t [] t
+puts_none t = record { same = refl; written = written_none t.lent.now t.at }
 
-  pub last_written : {text text₁ text₂ : List ℕ} {at at₁ at₂ : ℕ} → 10 ≤ n → WrittenWithin 10 text at (decimal (n / 10)) text₁ at₁ → Written text₁ at₁ (digit_byte (n % 10) ∷ []) text₂ at₂ →
-      WrittenWithin 10 text at (decimal n) text₂ at₂
-  last_written large front last = record { written = rw (more_digits n large) (written_then front.written last); few = ten_digits n below }
+pub puts_then : {t t₁ t₂ : Text} {new more : List ℕ} → Puts t new t₁ → Puts t₁ more t₂ → Puts t (new ++ more) t₂
+puts_then p q = record { same = q.same ∙ p.same; written = written_then p.written q.written }
 
--- ---- A byte, and a number
+pub puts_within : {t t' : Text} {new : List ℕ} → Puts t new t' → PutsWithin (length new) t new t'
+puts_within p = record { same = p.same; written = within_itself p.written }
 
-pub after_byte : {b most : ℕ} {bytes text text₁ text₂ : List ℕ} {at at₁ at₂ : ℕ} → Written text at (b ∷ []) text₁ at₁ → WrittenWithin most text₁ at₁ bytes text₂ at₂ → WrittenWithin (suc most) text at (b ∷ bytes) text₂ at₂
-after_byte one w = record { written = written_then one w.written; few = omega (arith, w.few) }
+-- By another name, and with a bound.
+pub puts_as : {most : ℕ} {t t' : Text} {new shown : List ℕ} → Puts t new t' → new ≡ shown → length new ≤ most → PutsWithin most t shown t'
+puts_as {most} {t} {t'} p is few = subst (λ shown. PutsWithin most t shown t') is (record { same = p.same; written = record { written = p.written; few = few } })
+
+pub puts_more : {most more : ℕ} {t t' : Text} {new : List ℕ} → most ≤ more → PutsWithin most t new t' → PutsWithin more t new t'
+puts_more enough p = record { same = p.same; written = within_more enough p.written }
+
+pub puts_within_then : {most₁ most₂ : ℕ} {t t₁ t₂ : Text} {new more : List ℕ} → PutsWithin most₁ t new t₁ → PutsWithin most₂ t₁ more t₂ → PutsWithin (most₁ + most₂) t (new ++ more) t₂
+puts_within_then p q = record { same = q.same ∙ p.same; written = within_then p.written q.written }
+
+-- One more of some bytes.
+pub bytes_more : (bytes : List ℕ) {t t₁ t₂ : Text} {i : ℕ} → Puts t (take i bytes) t₁ → i < length bytes → Puts t₁ (get_or bytes i 0 ∷ []) t₂ → Puts t (take (i + 1) bytes) t₂
+bytes_more bytes {i = i} so_far below one = rw (add-one, take-suc bytes i 0 below) (puts_then so_far one)
 
 -- ---- An integer
 
-module _ (p : ℕ) where
-  -- A pattern below 2147483648 is no negative integer's.
-  pub not_negative : p < 2147483648 → to_z w32 p ≡ pos p
-  not_negative small = rw (lt-ltb p 2147483648 small)
-
-  pub plain_written : {text text' : List ℕ} {at next : ℕ} → p < 2147483648 → WrittenWithin 10 text at (decimal p) text' next → WrittenWithin 11 text at (signed_decimal (to_z w32 p)) text' next
-  plain_written small w = rw (not_negative small) (record { written = w.written; few = omega (arith, w.few) })
-
-  pub negative_written : {text text₁ text₂ : List ℕ} {at at₁ at₂ : ℕ} → 2147483648 ≤ p → p < word_limit → Written text at (45 ∷ []) text₁ at₁ →
-      WrittenWithin 10 text₁ at₁ (decimal (4294967295 - p + 1)) text₂ at₂ → WrittenWithin 11 text at (signed_decimal (to_z w32 p)) text₂ at₂
-  negative_written large below sign w =
-      let same : suc (4294967296 - suc p) ≡ 4294967295 - p + 1 = omega arith in
-      rw (le-ltb p 2147483648 large, same) (after_byte sign w)
+-- A pattern below 2147483648 is no negative integer's.
+pub not_negative : (p : ℕ) → p < 2147483648 → to_z w32 p ≡ pos p
+not_negative p small = rw (lt-ltb p 2147483648 small)
 
 -- ---- A space and each number
 
@@ -52,22 +51,15 @@ pub spaced_one : (text : List ℕ) → spaced (text ∷ []) ≡ 32 ∷ text
 unfolding spaced
 spaced_one text = ap (λ t. 32 ∷ t) (append-nil text)
 
--- The first i numbers are written.
-pub record NumbersWritten (ns before : List ℕ) (at : ℕ) (now : List ℕ) (next i : ℕ) : Type 0 where
-  pub some : i ≤ length ns
-  pub so_far : WrittenWithin (11 * i) before at (spaced (map decimal (take i ns))) now next
-
-pub numbers_none : {ns text : List ℕ} {at : ℕ} → NumbersWritten ns text at text at 0
+pub numbers_none : (ns : List ℕ) (t : Text) → PutsWithin (11 * 0) t (spaced (map decimal (take 0 ns))) t
 unfolding spaced
-numbers_none {text = text} {at} = record { some = omega arith; so_far = record { written = written_none text at; few = omega arith } }
+numbers_none ns t = puts_within (puts_none t)
 
-module _ {ns before now : List ℕ} {at next i : ℕ} (w : NumbersWritten ns before at now next i) where
-  pub numbers_more : {now' : List ℕ} {next' : ℕ} → i < length ns → WrittenWithin 11 now next (32 ∷ decimal (get_or ns i 0)) now' next' → NumbersWritten ns before at now' next' (i + 1)
-  numbers_more below one =
-      let more : 11 * suc i ≡ 11 * i + 11 = omega arith in
-      rw add-one (record { some = below; so_far = rw (more, take-suc ns i 0 below, map-append, spaced_append, spaced_one) (within_then w.so_far one) })
+module _ (ns : List ℕ) {t t' : Text} {i : ℕ} (so_far : PutsWithin (11 * i) t (spaced (map decimal (take i ns))) t') where
+  pub numbers_more : {t₁ t₂ : Text} → i < length ns → Puts t' (32 ∷ []) t₁ → PutsWithin 10 t₁ (decimal (get_or ns i 0)) t₂ → PutsWithin (11 * (i + 1)) t (spaced (map decimal (take (i + 1) ns))) t₂
+  numbers_more below space one =
+      let more : 11 * suc i ≡ 11 * i + (1 + 10) = omega arith in
+      rw (add-one, more, take-suc ns i 0 below, map-append, spaced_append, spaced_one) (puts_within_then so_far (puts_within_then (puts_within space) one))
 
-  pub numbers_all : length ns ≤ i → WrittenWithin (11 * length ns) before at (spaced (map decimal ns)) now next
-  numbers_all over =
-      let all : i ≡ length ns = omega (arith, w.some) in
-      rw (all, take_all (length ns) ns (omega arith)) at w.so_far
+  pub numbers_all : i ≡ length ns → PutsWithin (11 * length ns) t (spaced (map decimal ns)) t'
+  numbers_all all = rw (all, take_all (length ns) ns (omega arith)) at so_far

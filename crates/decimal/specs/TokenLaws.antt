@@ -1,10 +1,9 @@
 -- A token that grows by bytes behind it.
-use Rattle.std.specs.Prelude.{ℕ, ◌≤◌, ◌<◌, ◌≡◌, Bool, cond, ◌&&◌, ltb}
+use Rattle.std.specs.Prelude.{ℕ, ◌≤◌, ◌<◌, ◌≡◌, Bool, cond, ◌&&◌, ltb, Option, None, Some}
 use Rattle.std.proofs.Math.Path.{refl}
 use Rattle.std.proofs.Common.{◌∙◌, ap, arith, ltb-false, lt-ltb, le-ltb}
 use Rattle.std.proofs.Math.Bool.{true, false}
 use mathlib.Core.List.{List, [], ◌∷◌, ◌++◌, foldl, foldl-append, append-nil}
-use Rattle.std.proofs.Math.Option.{Option, none, some}
 use Rattle.decimal.specs.Input.{longer, after_byte, is_space, runs, is_digit, all_digits, with_digit, value_of, word_limit, number_of}
 
 -- ---- Runs
@@ -59,28 +58,28 @@ no_smaller n [] = omega arith
 no_smaller n (b ∷ bytes) = omega (arith, no_smaller (with_digit n b) bytes)
 
 abbrev pub value_so_far : Option ℕ → ℕ
-value_so_far none = 0
-value_so_far (some value) = value
+value_so_far None = 0
+value_so_far (Some value) = value
 
 -- The bytes of the token under way, and its value so far.
 pub data Begun : List ℕ → Option ℕ → Type 0 where
-  between : Begun [] none
-  within : {b : ℕ} {run : List ℕ} {value : ℕ} → all_digits (b ∷ run) ≡ true → value_of (b ∷ run) ≡ value → value < word_limit → Begun (b ∷ run) (some value)
+  between : Begun [] None
+  within : {b : ℕ} {run : List ℕ} {value : ℕ} → all_digits (b ∷ run) ≡ true → value_of (b ∷ run) ≡ value → value < word_limit → Begun (b ∷ run) (Some value)
 
-pub begun_number : {b : ℕ} {run : List ℕ} {value : ℕ} → Begun (b ∷ run) (some value) → number_of (b ∷ run) ≡ some value
+pub begun_number : {b : ℕ} {run : List ℕ} {value : ℕ} → Begun (b ∷ run) (Some value) → number_of (b ∷ run) ≡ Some value
 begun_number (within digits is below) = rw (digits, is, lt-ltb _ _ below)
 
 -- A token that begins with no number is none.
-pub no_number_longer : (run more : List ℕ) → number_of run ≡ none → number_of (run ++ more) ≡ none
+pub no_number_longer : (run more : List ℕ) → number_of run ≡ None → number_of (run ++ more) ≡ None
 no_number_longer run more e = go (all_digits run) (ltb (value_of run) word_limit) refl refl e
   where
-    go : (digits below : Bool) → all_digits run ≡ digits → ltb (value_of run) word_limit ≡ below → cond (digits && below) (some (value_of run)) none ≡ none → number_of (run ++ more) ≡ none
+    go : (digits below : Bool) → all_digits run ≡ digits → ltb (value_of run) word_limit ≡ below → cond (digits && below) (Some (value_of run)) None ≡ None → number_of (run ++ more) ≡ None
     go false below d l n = rw (all_digits_append run more, d)
     go true false d l n =
         let large : word_limit ≤ value_of (run ++ more) = rw value_append (omega (arith, ltb-false (value_of run) word_limit l, no_smaller (value_of run) more)) in
         rw (le-ltb (value_of (run ++ more)) word_limit large) (neither (all_digits (run ++ more)))
       where
-        neither : (digits : Bool) → cond (digits && false) (some (value_of (run ++ more))) none ≡ none
+        neither : (digits : Bool) → cond (digits && false) (Some (value_of (run ++ more))) None ≡ None
         neither true = refl
         neither false = refl
     go true true d l n = absurd (let z : ◌≡◌ {A = ℕ} 0 1 = cc in omega arith)
@@ -96,7 +95,7 @@ value_so_far_lem : {run : List ℕ} {token : Option ℕ} → Begun run token →
 value_so_far_lem between = refl
 value_so_far_lem (within digits is below) = is
 
-begun_with : (run : List ℕ) (b : ℕ) {value : ℕ} → all_digits (run ++ b ∷ []) ≡ true → value_of (run ++ b ∷ []) ≡ value → value < word_limit → Begun (run ++ b ∷ []) (some value)
+begun_with : (run : List ℕ) (b : ℕ) {value : ℕ} → all_digits (run ++ b ∷ []) ≡ true → value_of (run ++ b ∷ []) ≡ value → value < word_limit → Begun (run ++ b ∷ []) (Some value)
 begun_with [] b digits is below = within digits is below
 begun_with (a ∷ run) b digits is below = within digits is below
 
@@ -112,12 +111,12 @@ module _ {run : List ℕ} {token : Option ℕ} (begun : Begun run token) (b : �
   value_with : value_of (run ++ b ∷ []) ≡ with_digit (value_so_far token) b
   value_with = value_append run (b ∷ []) ∙ ap (λ v. with_digit v b) (value_so_far_lem begun)
 
-  pub no_digit : is_digit b ≡ false → number_of (run ++ b ∷ []) ≡ none
+  pub no_digit : is_digit b ≡ false → number_of (run ++ b ∷ []) ≡ None
   no_digit e = rw (digits_with, e)
 
   module _ (digit : is_digit b ≡ true) where
-    pub grows : with_digit (value_so_far token) b < word_limit → Begun (run ++ b ∷ []) (some (with_digit (value_so_far token) b))
+    pub grows : with_digit (value_so_far token) b < word_limit → Begun (run ++ b ∷ []) (Some (with_digit (value_so_far token) b))
     grows below = begun_with run b (digits_with ∙ digit) value_with below
 
-    pub too_large : word_limit ≤ with_digit (value_so_far token) b → number_of (run ++ b ∷ []) ≡ none
+    pub too_large : word_limit ≤ with_digit (value_so_far token) b → number_of (run ++ b ∷ []) ≡ None
     too_large large = rw (digits_with, digit, value_with, le-ltb _ _ large)

@@ -5,9 +5,9 @@ mod scan;
 mod text;
 
 pub use scan::{end, feed};
-pub use text::{bytes, integer, numbers};
+pub use text::Text;
 
-// Where a scan stands.
+// Where a scan stands. A failed scan is a state as the others, which the calls take too: no caller has to ask before it goes on.
 #[derive(Clone, Copy)]
 pub enum Scanner {
     // A token was no number, or a word was one too many.

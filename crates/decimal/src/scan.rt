@@ -1,7 +1,7 @@
 // The scan of an input, byte by byte. The words that are read stand at the beginning of a lent slice; one more than it has is a failure.
-ghost use Rattle.std.specs.Prelude.{◌≡◌};
+ghost use Rattle.std.specs.Prelude.{◌≡◌, ◌&&◌, cond, ltb};
 ghost use mathlib.Core.List.{foldl};
-ghost use Rattle.decimal.specs.Input.{is_space};
+ghost use Rattle.decimal.specs.Input.{is_space, is_digit, with_digit, word_limit};
 ghost use Rattle.decimal.specs.Scan.{stands, with_word, in_token, other_read, scan_byte, finish};
 
 use crate::Scanner;
@@ -9,12 +9,16 @@ use crate::Scanner;
 fn is_space(b: u8) -> bool
     ensures { result ≡ is_space b }
 {
+    matches!(b, b'\t' | b'\n' | b'\r' | b' ')
+}
+
+// A number with one more digit behind it, if the byte is a digit and the number is a word.
+fn with_digit(value: u32, b: u8) -> Option<u32>
+    ensures { result ≡ cond (is_digit b && ltb (with_digit value b) word_limit) (Some (with_digit value b)) None }
+{
     match b {
-        9 => true,
-        10 => true,
-        13 => true,
-        32 => true,
-        _ => false,
+        b'0'..=b'9' => u32::try_from(u64::from(value) * 10 + u64::from(b - b'0')).ok(),
+        _ => None,
     }
 }
 
@@ -22,19 +26,9 @@ fn is_space(b: u8) -> bool
 fn in_token(count: usize, value: u32, b: u8) -> Scanner
     ensures { result ≡ in_token count value b }
 {
-    match b {
-        48..=57 => {
-            let next = (value as u64) * 10 + ((b - 48) as u64);
-            if next < 4294967296 {
-                Scanner::Inside {
-                    count: count,
-                    value: next as u32,
-                }
-            } else {
-                Scanner::Failed
-            }
-        }
-        _ => Scanner::Failed,
+    match with_digit(value, b) {
+        Some(value) => Scanner::Inside { count, value },
+        None => Scanner::Failed,
     }
 }
 
@@ -66,20 +60,21 @@ pub fn end(s: Scanner, words: &mut [u32]) -> Scanner
     ensures { stands result words.new ≡ finish (stands s words.old) }
 {
     match s {
-        Scanner::Failed => Scanner::Failed,
-        Scanner::Between(count) => Scanner::Between(count),
+        Scanner::Failed | Scanner::Between(_) => s,
         Scanner::Inside { count, value } => word(count, value, words),
     }
 }
 
 // One more byte of the input.
+#[tactic(auto, unfolding(crate::specs::Scan::scan_byte))]
 fn step(s: Scanner, b: u8, words: &mut [u32]) -> Scanner
     ensures { stands result words.new ≡ scan_byte (stands s words.old) b }
 {
     if is_space(b) {
-        return end(s, words);
+        end(s, words)
+    } else {
+        other(s, b)
     }
-    other(s, b)
 }
 
 // More bytes of the input.
@@ -87,10 +82,8 @@ pub fn feed(s: Scanner, piece: &[u8], words: &mut [u32]) -> Scanner
     ensures { stands result words.new ≡ foldl scan_byte (stands s words.old) piece.now }
 {
     let mut at = s;
-    let mut i: usize = 0;
-    while i < piece.len() {
-        at = step(at, piece[i], words);
-        i += 1;
+    for b in piece {
+        at = step(at, *b, words);
     }
     at
 }

@@ -1,8 +1,7 @@
 -- A solution of a table's equations types its formula: at every node it gives a derivation in the environment of the node's scope.
-use Rattle.std.specs.Prelude.{ℕ, ◌<◌, ◌≡◌, refl}
+use Rattle.std.specs.Prelude.{ℕ, ◌<◌, ◌≡◌, refl, Some}
 use Rattle.std.proofs.Common.{sym, ◌∙◌, subst}
 use mathlib.Core.List.{[]}
-use Rattle.std.proofs.Math.Option.{some}
 use Rattle.language.specs.Ty.{Subst, apply}
 use Rattle.language.specs.Environment.{empty}
 use Rattle.language.specs.Typing.{Has, CONST, APP, COND, LET, ABSTR', REC'}
@@ -25,7 +24,7 @@ module _ {nd : Nodes} {n : ℕ} (t : ClosedTree nd n) (s : Subst) where
 
   -- A line for each rule: the equations of a node make its typing out of those of its children.
   by_rule : (k : ℕ) → k < n → (node : Node) → nd k ≡ node → Solves s (equations_at nd k node) →
-      ((f : Field) (c : ℕ) → child node f ≡ some c → Has (inside node f (s (name_var k)) (env_of nd s (scope nd k))) (exp_at nd n c) (s (node_var c))) →
+      ((f : Field) (c : ℕ) → child node f ≡ Some c → Has (inside node f (s (name_var k)) (env_of nd s (scope nd k))) (exp_at nd n c) (s (node_var c))) →
       Has (env_of nd s (scope nd k)) (shape (exp_at nd n) node) (s (node_var k))
   unfolding apply
   by_rule k below (constant_node c) e (also q none_left) kid = CONST (sym (q ∙ constants_have_no_variable s c))

@@ -1,10 +1,9 @@
 -- A typing of a table's formula gives a solution of the table's equations: the derivation is carried down the table, and the type of a node
 -- is the type of the derivation that arrives there.
-use Rattle.std.specs.Prelude.{ℕ, ◌*◌, ◌+◌, ◌<◌, ◌/◌, ◌%◌, ◌≡◌, cond, ◌≢◌, eqb}
+use Rattle.std.specs.Prelude.{ℕ, ◌*◌, ◌+◌, ◌<◌, ◌/◌, ◌%◌, ◌≡◌, cond, ◌≢◌, eqb, Some}
 use Rattle.std.proofs.Math.Path.{refl, sym, subst}
 use Rattle.std.proofs.Common.{◌∙◌, ap, ap₂, eq-eqb, ne_eqb}
 use mathlib.Core.List.{[]}
-use Rattle.std.proofs.Math.Option.{some}
 use native.Mathlib.Omega.{arith}
 use Rattle.language.specs.Expression.{Name, name}
 use Rattle.language.specs.Ty.{Ty, Subst, ◌⇒◌, apply}
@@ -60,7 +59,7 @@ module _ {nd : Nodes} {n : ℕ} (t : ClosedTree nd n) (s : Subst) where
   -- A line for each rule: a derivation for a node solves the node's equations, if the types that s gives are those of the derivation and
   -- of its premises.
   solves_at : (k : ℕ) → k < n → (node : Node) → nd k ≡ node → {j : Derivation} → Types j (env_of nd s (scope nd k)) (shape (exp_at nd n) node) →
-      s (node_var k) ≡ j.type → s (name_var k) ≡ binds j → ((f : Field) (c : ℕ) → child node f ≡ some c → s (node_var c) ≡ (premise j f).type) →
+      s (node_var k) ≡ j.type → s (name_var k) ≡ binds j → ((f : Field) (c : ℕ) → child node f ≡ Some c → s (node_var c) ≡ (premise j f).type) →
       Solves s (equations_at nd k node)
   unfolding apply
   solves_at k below (constant_node c) e (types (CONST is)) own bound kid = also (own ∙ sym is ∙ sym (constants_have_no_variable s c)) none_left

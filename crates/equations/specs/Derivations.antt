@@ -1,7 +1,6 @@
 -- Derivations as values, packed with what they derive: a walk through a table can carry them from a node to its child.
-use Rattle.std.specs.Prelude.{ℕ, ◌≡◌, refl}
+use Rattle.std.specs.Prelude.{ℕ, ◌≡◌, refl, Option, None, Some}
 use Rattle.std.proofs.Common.{subst}
-use Rattle.std.proofs.Math.Option.{Option, none, some}
 use Rattle.language.specs.Expression.{Exp, unit_element}
 use Rattle.language.specs.Ty.{Ty, unit}
 use Rattle.language.specs.Environment.{Env, empty}
@@ -60,8 +59,8 @@ pub data Types : Derivation → Env Ty → Exp → Type 0 where
 
 -- The same of the child in a field, if there is one.
 abbrev TypesKid : (ℕ → Exp) → Derivation → Env Ty → Option ℕ → Type 0
-TypesKid at j Γ none = Unit
-TypesKid at j Γ (some c) = Types j Γ (at c)
+TypesKid at j Γ None = Unit
+TypesKid at j Γ (Some c) = Types j Γ (at c)
 
 -- What j types it types by a derivation that it packs.
 pub taken_apart : {j : Derivation} {Γ : Env Ty} {e : Exp} → Types j Γ e → (τ : Ty) × (d : Has Γ e τ) × (packed d ≡ j)
@@ -78,7 +77,7 @@ module _ (at : ℕ → Exp) where
   premises_type_kids (let_node x e₁ e₂) (LET d₁ d₂) = elim [ field_a ↦ tt | field_b ↦ types d₁ | field_c ↦ types d₂ ]
   premises_type_kids (rec_node x e) (REC' d) = elim [ field_a ↦ tt | field_b ↦ types d | field_c ↦ tt ]
 
-  pub premise_types_kid : {j : Derivation} {Γ : Env Ty} (node : Node) (f : Field) {c : ℕ} → child node f ≡ some c → Types j Γ (shape at node) → Types (premise j f) (inside node f (binds j) Γ) (at c)
+  pub premise_types_kid : {j : Derivation} {Γ : Env Ty} (node : Node) (f : Field) {c : ℕ} → child node f ≡ Some c → Types j Γ (shape at node) → Types (premise j f) (inside node f (binds j) Γ) (at c)
   premise_types_kid {j} {Γ} node f stands typed =
       let (τ, d, is) = taken_apart typed in
       let kid = subst (λ (j' : Derivation). TypesKid at (premise j' f) (inside node f (binds j') Γ) (child node f)) is (premises_type_kids node d f) in

@@ -1,6 +1,5 @@
 -- The equations of a table: each node contributes those of its rule (lecture notes, section 10; formula sheet, section 6).
-use Rattle.std.specs.Prelude.{ℕ, zero, suc, ◌+◌, ◌*◌, List, [], ◌∷◌, ◌++◌}
-use Rattle.std.proofs.Math.Option.{Option, none, some}
+use Rattle.std.specs.Prelude.{ℕ, zero, suc, ◌+◌, ◌*◌, List, [], ◌∷◌, ◌++◌, Option, None, Some}
 use Rattle.language.specs.Ty.{Ty, bool, ◌⇒◌, var}
 use Rattle.language.specs.Typing.{type_of}
 use Rattle.language.specs.Unification.{Equation, ◌≐◌}
@@ -26,8 +25,8 @@ type_bound_at k = var (name_var k)
 
 -- A name has the type of its binder. A name without a binder, which no checked table has, has no equation.
 abbrev pub name_equations : ℕ → Option ℕ → List Equation
-name_equations k none = []
-name_equations k (some b) = (type_at k ≐ type_bound_at b) ∷ []
+name_equations k None = []
+name_equations k (Some b) = (type_at k ≐ type_bound_at b) ∷ []
 
 -- (CONST), (ID), (APP), (COND), (ABSTR), (LET), (REC) of section 6.1, at node k.
 abbrev pub equations_at : Nodes → ℕ → Node → List Equation

@@ -1,6 +1,5 @@
 -- Inference of a table's type by the textbook's unification of its equations.
-use Rattle.std.specs.Prelude.{ℕ}
-use Rattle.std.proofs.Math.Option.{Option, none, some}
+use Rattle.std.specs.Prelude.{ℕ, Option, None, Some}
 use Rattle.language.specs.Expression.{Exp}
 use Rattle.language.specs.Ty.{Ty}
 use Rattle.language.specs.Environment.{empty}
@@ -13,8 +12,8 @@ use Rattle.table.specs.Scope.{first_named}
 use Rattle.equations.specs.Equations.{node_var, equations_below}
 
 abbrev pub root_type : Unified → Option Ty
-root_type (solution s) = some (s (node_var 0))
-root_type unsolvable = none
+root_type (solution s) = Some (s (node_var 0))
+root_type unsolvable = None
 
 -- To unfold `inferred` is to unfold all that it computes with.
 unfoldable pub inferred : Nodes → ℕ → Option Ty
@@ -23,5 +22,5 @@ inferred nd n = root_type (unify (equations_below nd n))
 
 -- What a right answer is.
 abbrev pub RightType : Exp → Option Ty → Type 0
-RightType e (some τ) = Principal empty e τ
-RightType e none = (τ : Ty) → ¬ Has empty e τ
+RightType e (Some τ) = Principal empty e τ
+RightType e None = (τ : Ty) → ¬ Has empty e τ

@@ -1,10 +1,9 @@
 -- A substitution makes a scope an environment: each binder's name has there the type of that binder's unknown.
-use Rattle.std.specs.Prelude.{ℕ, ◌<◌, Bool, ◌≢◌, eqb}
+use Rattle.std.specs.Prelude.{ℕ, ◌<◌, Bool, ◌≢◌, eqb, Option, Some}
 use Rattle.std.proofs.Math.Path.{◌≡◌, refl}
 use Rattle.std.proofs.Common.{sym, arith, eqb-true}
 use Rattle.std.proofs.Math.Bool.{true, false, cond}
 use mathlib.Core.List.{List, [], ◌∷◌}
-use Rattle.std.proofs.Math.Option.{Option, some}
 use Rattle.std.proofs.lemmas.Bool.{eqb-false}
 use Rattle.language.specs.Expression.{Name, name}
 use Rattle.language.specs.Ty.{Ty, Subst}
@@ -46,21 +45,21 @@ module _ (nd : Nodes) (s : Subst) where
 
   -- ---- Look-up
 
-  module _ (x : Name) (p b : ℕ) {Γ : Env Ty} {outer : Option ℕ} (around : outer ≡ some b → Has Γ (name x) (s (name_var b))) where
-    found_at_binder : (y : Name) → cond (eqb y x) (some p) outer ≡ some b → Has (bind Γ y (s (name_var p))) (name x) (s (name_var b))
+  module _ (x : Name) (p b : ℕ) {Γ : Env Ty} {outer : Option ℕ} (around : outer ≡ Some b → Has Γ (name x) (s (name_var b))) where
+    found_at_binder : (y : Name) → cond (eqb y x) (Some p) outer ≡ Some b → Has (bind Γ y (s (name_var p))) (name x) (s (name_var b))
     found_at_binder y = go (eqb y x) refl
       where
         past : {τ : Ty} → x ≢ y → Has Γ (name x) τ → Has (bind Γ y (s (name_var p))) (name x) τ
         past differ (ID found) = ID (outside differ found)
 
-        go : (i : Bool) → eqb y x ≡ i → cond i (some p) outer ≡ some b → Has (bind Γ y (s (name_var p))) (name x) (s (name_var b))
+        go : (i : Bool) → eqb y x ≡ i → cond i (Some p) outer ≡ Some b → Has (bind Γ y (s (name_var p))) (name x) (s (name_var b))
         go true same e =
             let names : y ≡ x = eqb-true y x same in
             let nodes : p ≡ b = cc in
             rw (names, nodes) (ID here)
         go false differ e = past (λ names. eqb-false y x differ (sym names)) (around e)
 
-    found_at : (node : Node) → cond (is_named x node) (some p) outer ≡ some b → Has (with_name node (s (name_var p)) Γ) (name x) (s (name_var b))
+    found_at : (node : Node) → cond (is_named x node) (Some p) outer ≡ Some b → Has (with_name node (s (name_var p)) Γ) (name x) (s (name_var b))
     found_at (constant_node c) = around
     found_at (name_node y) = around
     found_at (application_node l r) = around
@@ -69,11 +68,11 @@ module _ (nd : Nodes) (s : Subst) where
     found_at (let_node y e₁ e₂) = found_at_binder y
     found_at (rec_node y e) = found_at_binder y
 
-  name_found : (x : Name) (b : ℕ) (ps : List ℕ) → first_named nd x ps ≡ some b → Has (env_of ps) (name x) (s (name_var b))
+  name_found : (x : Name) (b : ℕ) (ps : List ℕ) → first_named nd x ps ≡ Some b → Has (env_of ps) (name x) (s (name_var b))
   unfolding env_of first_named
   name_found x b [] e = absurd (let z : ◌≡◌ {A = ℕ} 0 1 = cc in omega arith)
   name_found x b (p ∷ ps) e = found_at x p b (name_found x b ps) (nd p) e
 
   -- A name node's name has the type of its binder.
-  pub name_has_binder's_type : {n k : ℕ} {x : Name} → ClosedTree nd n → k < n → nd k ≡ name_node x → (b : ℕ) × (binder_of nd k ≡ some b) × Has (env_of (scope nd k)) (name x) (s (name_var b))
+  pub name_has_binder's_type : {n k : ℕ} {x : Name} → ClosedTree nd n → k < n → nd k ≡ name_node x → (b : ℕ) × (binder_of nd k ≡ Some b) × Has (env_of (scope nd k)) (name x) (s (name_var b))
   name_has_binder's_type {k = k} {x = x} t below e = let (b, found) = t.bound below e in (b, rw e found, name_found x b (scope nd k) found)

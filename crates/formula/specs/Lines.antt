@@ -1,10 +1,9 @@
 -- The lines that the program prints.
-use Rattle.std.specs.Prelude.{ℕ, List, [], ◌∷◌, ◌++◌, map, take, ℤ}
+use Rattle.std.specs.Prelude.{ℕ, Result, Ok, Err, List, [], ◌∷◌, ◌++◌, map, take, ℤ}
 use Rattle.std.specs.Int.{w32}
 use Rattle.std.proofs.Common.{to_z}
 use Rattle.inference.specs.Inference.{code_of as type_code, place_of}
-use Rattle.inference.specs.declared.Inferred.{Inferred}
-use Rattle.inference.specs.declared.Inferred.TheVariants.{Typed, Refused as NoType}
+use Rattle.inference.specs.declared.Untyped.{Untyped}
 use Rattle.answers.specs.Answers.{code_of as run_code, payload_of}
 use Rattle.answers.specs.declared.Answer.{Answer}
 use Rattle.machine.specs.declared.Ran.{Ran}
@@ -20,11 +19,11 @@ line first others = first ++ spaced others ++ 10 ∷ []
 abbrev pub type_text : List ℕ
 type_text = 116 ∷ 121 ∷ 112 ∷ 101 ∷ []
 
-abbrev pub type_words : Inferred → List ℕ → List ℕ
-type_words (Typed count) out = take count out
-type_words (NoType code place) out = []
+abbrev pub type_words : Result ℕ Untyped → List ℕ → List ℕ
+type_words (Ok count) out = take count out
+type_words (Err untyped) out = []
 
-abbrev pub type_line : Inferred → List ℕ → List ℕ
+abbrev pub type_line : Result ℕ Untyped → List ℕ → List ℕ
 type_line answer out = line type_text (decimal (type_code answer) ∷ decimal (place_of answer) ∷ map decimal (type_words answer out))
 
 -- ---- `run CODE PAYLOAD STEPS BINDINGS`

@@ -1,6 +1,5 @@
 -- What the program prints for an input.
-use Rattle.std.specs.Prelude.{ℕ, ◌≡◌, List, ◌++◌, replicate}
-use Rattle.std.proofs.Math.Option.{none, some}
+use Rattle.std.specs.Prelude.{ℕ, ◌≡◌, List, ◌++◌, replicate, None, Some}
 use Rattle.inference.specs.Inference.{After, Infers}
 use Rattle.machine.specs.Runs.{RunIs}
 use Rattle.machine.specs.declared.Ran.{Ran}
@@ -19,5 +18,5 @@ pub record TwoLines (words text : List ℕ) : Type 0 where
 
 -- An input that has no words gives the one line `input`.
 pub data Prints (input text : List ℕ) : Type 0 where
-  no_words : words_in 2048 input ≡ none → text ≡ input_line → Prints input text
-  answered : {words : List ℕ} → words_in 2048 input ≡ some words → TwoLines words text → Prints input text
+  no_words : words_in 2048 input ≡ None → text ≡ input_line → Prints input text
+  answered : {words : List ℕ} → words_in 2048 input ≡ Some words → TwoLines words text → Prints input text

@@ -1,19 +1,19 @@
 -- The program's parts together.
-use Rattle.std.specs.Prelude.{ℕ, ◌≤◌, min, ◌≡◌, refl, List, [], ◌∷◌, ◌++◌, length, take, replicate}
+use Rattle.std.specs.Prelude.{ℕ, ◌≤◌, min, ◌≡◌, refl, Option, Some, None, Result, Ok, Err, List, [], ◌∷◌, ◌++◌, length, take, replicate}
 use Rattle.std.proofs.Common.{sym, ◌∙◌, ap, arith}
-use Rattle.std.proofs.Math.Option.{Option, none, some}
 use Rattle.std.proofs.lemmas.List.{length-replicate}
-use Rattle.lent.specs.Written.{Written, WrittenWithin}
-use Rattle.lent.specs.WrittenLaws.{written_length, within_then}
+use Rattle.lent.specs.WrittenLaws.{written_length}
 use Rattle.lent.specs.Writing.{first_written}
 use Rattle.decimal.specs.Input.{words_in}
 use Rattle.decimal.specs.Scan.{ScanState, finish, words_at}
 use Rattle.decimal.specs.Decimal.{spaced}
+use Rattle.decimal.specs.Puts.{Puts, PutsWithin}
+use Rattle.decimal.specs.TextLaws.{puts_within_then}
+use Rattle.decimal.specs.declared.text.Text.{Text}
 use Rattle.decimal.specs.ScanIsWordsIn.{scan_is_words_in}
 use Rattle.inference.specs.Inference.{After, leaves, Infers}
 use Rattle.inference.specs.TypeWithin.{type_within}
-use Rattle.inference.specs.declared.Inferred.{Inferred}
-use Rattle.inference.specs.declared.Inferred.TheVariants.{Typed, Refused}
+use Rattle.inference.specs.declared.Untyped.{Untyped}
 use Rattle.machine.specs.Runs.{RunIs}
 use Rattle.machine.specs.declared.Ran.{Ran}
 use Rattle.formula.specs.Lines.{type_line, run_line, input_text, input_line}
@@ -25,37 +25,43 @@ use Rattle.formula.specs.Responding.{Responds}
 
 -- ---- The two lines
 
--- The line of a table's inference, at the beginning of a text.
-pub record TypeLineIn (words before after : List ℕ) (next : ℕ) : Type 0 where
+-- A text of the program's size, of which nothing is written.
+pub record Blank (t : Text) : Type 0 where
+  pub size : length t.lent.now ≡ 1024
+  pub start : t.at ≡ 0
+
+-- The line of a table's inference.
+pub record TypeLineIn (words : List ℕ) (before after : Text) : Type 0 where
   pub inferred : After
   pub infers : Infers words (replicate 12304 0) (replicate 64 0) inferred
-  pub line : WrittenWithin 731 before 0 (type_line inferred.answer inferred.out) after next
+  pub line : PutsWithin 731 before (type_line inferred.answer inferred.out) after
 
 -- The line of a table's run.
-pub record RunLineIn (words before : List ℕ) (at : ℕ) (after : List ℕ) (next : ℕ) : Type 0 where
+pub record RunLineIn (words : List ℕ) (before after : Text) : Type 0 where
   pub ran : Ran
   pub bindings : List ℕ
   pub frames : List ℕ
   pub runs : RunIs words 100000 (replicate 4096 0) (replicate 4096 0) bindings frames ran
-  pub line : WrittenWithin 49 before at (run_line ran) after next
+  pub line : PutsWithin 49 before (run_line ran) after
 
--- The first n bytes of the text are a table's two lines.
-pub record TwoLinesIn (words text : List ℕ) (n : ℕ) : Type 0 where
-  pub inside : n ≤ length text
-  pub lines : TwoLines words (take n text)
+-- What is written of the text is a table's two lines.
+pub record TwoLinesIn (words : List ℕ) (t : Text) : Type 0 where
+  pub inside : t.at ≤ length t.lent.now
+  pub lines : TwoLines words (take t.at t.lent.now)
 
-pub type_fits : {words work out work' out' : List ℕ} {a : Inferred} → Infers words work out (leaves a work' out') → words_shown a ≤ length out
+pub type_fits : {words work out work' out' : List ℕ} {a : Result ℕ Untyped} → Infers words work out (leaves a work' out') → words_shown a ≤ length out
 type_fits {words} {work} {out} {work'} {out'} {a} i = go a i
   where
-    go : (a : Inferred) → Infers words work out (leaves a work' out') → words_shown a ≤ length out
-    go (Typed count) i = type_within i refl
-    go (Refused code place) i = omega arith
+    go : (a : Result ℕ Untyped) → Infers words work out (leaves a work' out') → words_shown a ≤ length out
+    go (Ok count) i = type_within i refl
+    go (Err untyped) i = omega arith
 
-pub two_lines_fit : {words text text₁ text₂ : List ℕ} {at₁ at₂ : ℕ} → length text ≡ 1024 → TypeLineIn words text text₁ at₁ → RunLineIn words text₁ at₁ text₂ at₂ → TwoLinesIn words text₂ at₂
-two_lines_fit size type run =
-    let both = within_then type.line run.line in
+pub two_lines_fit : {words : List ℕ} {t t₁ t₂ : Text} → Blank t → TypeLineIn words t t₁ → RunLineIn words t₁ t₂ → TwoLinesIn words t₂
+two_lines_fit {t = t} blank type run =
+    let both = (puts_within_then type.line run.line).written in
+    let from_start = rw blank.start at both.written in
     record {
-      inside = omega (arith, both.few, both.written.next_is, written_length both.written);
+      inside = omega (arith, both.few, from_start.next_is, written_length from_start, blank.size);
       lines = record {
         after = type.inferred;
         infers = type.infers;
@@ -63,34 +69,36 @@ two_lines_fit size type run =
         bindings = run.bindings;
         frames = run.frames;
         runs = run.runs;
-        is = first_written both.written (omega (arith, both.few));
+        is = first_written from_start (omega (arith, both.few, blank.size));
       };
     }
 
 -- ---- The response
 
--- The first n bytes of the text are the lines for what was found in an input.
-pub data LinesFor (words : Option (List ℕ)) (text : List ℕ) (n : ℕ) : Type 0 where
-  the_input_line : words ≡ none → n ≤ length text → take n text ≡ input_line → LinesFor words text n
-  table_lines : {table : List ℕ} → words ≡ some table → TwoLinesIn table text n → LinesFor words text n
+-- What is written of the text are the lines for what was found in an input.
+pub data LinesFor (words : Option (List ℕ)) (t : Text) : Type 0 where
+  the_input_line : words ≡ None → t.at ≤ length t.lent.now → take t.at t.lent.now ≡ input_line → LinesFor words t
+  table_lines : {table : List ℕ} → words ≡ Some table → TwoLinesIn table t → LinesFor words t
 
-pub table_lines_fit : (words text : List ℕ) {count m n : ℕ} → m ≡ count → n ≡ min m (length words) → {written : ℕ} → TwoLinesIn (take n words) text written → LinesFor (some (take count words)) text written
-table_lines_fit words text {count} is within two = table_lines refl (rw (within, is, take_within count words) at two)
+pub table_lines_fit : (words : List ℕ) (count : ℕ) {n : ℕ} → n ≡ min count (length words) → {t : Text} → TwoLinesIn (take n words) t → LinesFor (Some (take count words)) t
+table_lines_fit words count within two = table_lines refl (rw (within, take_within count words) at two)
 
-pub input_line_fits : {n : ℕ} {text text' : List ℕ} → length text ≡ 1024 → Written text 0 (input_text ++ 10 ∷ []) text' n → LinesFor none text' n
+pub input_line_fits : {t t' : Text} → Blank t → Puts t (input_text ++ 10 ∷ []) t' → LinesFor None t'
 unfolding spaced
-input_line_fits size w = the_input_line refl (omega (arith, w.next_is, written_length w)) (first_written w (omega arith))
+input_line_fits blank p =
+    let w = rw blank.start at p.written in
+    the_input_line refl (omega (arith, w.next_is, written_length w, blank.size)) (first_written w (omega (arith, blank.size)))
 
 pub input_words : (input : List ℕ) → words_at (finish (input_scanned input)) ≡ words_in 2048 input
 input_words input = rw (← length-replicate {A = ℕ} 2048 0) (scan_is_words_in (replicate 2048 0) input)
 
-pub responds : {state last : ScanState} {text : List ℕ} {n : ℕ} → last ≡ finish state → LinesFor (words_at last) text n → Responds state text n
-responds {state} {last} {text} {n} ends lines = go lines
+pub responds : {state last : ScanState} {t : Text} → last ≡ finish state → LinesFor (words_at last) t → Responds state t.lent.now t.at
+responds {state} {last} {t} ends lines = go lines
   where
     -- The words of every input that leads to the state.
     words_are : (input : List ℕ) → input_scanned input ≡ state → words_in 2048 input ≡ words_at last
     words_are input leads = sym (input_words input) ∙ ap (λ s. words_at (finish s)) leads ∙ ap words_at (sym ends)
 
-    go : LinesFor (words_at last) text n → Responds state text n
+    go : LinesFor (words_at last) t → Responds state t.lent.now t.at
     go (the_input_line none_found inside is) = record { inside = inside; to = λ input leads. no_words (words_are input leads ∙ none_found) is }
     go (table_lines is two) = record { inside = two.inside; to = λ input leads. answered (words_are input leads ∙ is) two.lines }

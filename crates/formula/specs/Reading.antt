@@ -1,6 +1,5 @@
--- The input as it is read: the pieces that came, and why no other was read. A read answers less than zero if it failed, else how many
--- bytes came.
-use Rattle.std.specs.Prelude.{ℕ, ◌≡◌, ◌≢◌, length, replicate, ℤ, pos, negsuc}
+-- The input as it is read: the pieces that came, and why no other was read. A read answers how many bytes came, or none if it failed.
+use Rattle.std.specs.Prelude.{ℕ, ◌≡◌, ◌≢◌, length, replicate, Option, Some, None}
 use mathlib.Core.List.{List, [], ◌∷◌, ◌++◌, flatten}
 use Rattle.decimal.specs.Scan.{ScanState, stands, slice, scanned}
 use Rattle.decimal.specs.declared.Scanner.TheVariants.{Failed}
@@ -18,29 +17,29 @@ abbrev pub given_up : ScanState → ScanState
 given_up s = stands Failed (slice s)
 
 -- Where a scan stands after reads that gave that input, by what the last of them answered.
-abbrev pub after_reads : ℤ → List ℕ → ScanState
-after_reads (pos n) input = input_scanned input
-after_reads (negsuc k) input = given_up (input_scanned input)
+abbrev pub after_reads : Option ℕ → List ℕ → ScanState
+after_reads (Some n) input = input_scanned input
+after_reads None input = given_up (input_scanned input)
 
 -- Why there is no further read, by the pieces and what the last read answered.
-pub data ReadingEnds (pieces : List (List ℕ)) (got : ℤ) : Type 0 where
+pub data ReadingEnds (pieces : List (List ℕ)) (got : Option ℕ) : Type 0 where
   -- The input is at its end.
-  at_the_end : got ≡ pos 0 → ReadingEnds pieces got
+  at_the_end : got ≡ Some 0 → ReadingEnds pieces got
   -- No byte more can change the answer.
   scan_failed : {words : List ℕ} → input_scanned (flatten pieces) ≡ stands Failed words → ReadingEnds pieces got
-  read_failed : {k : ℕ} → got ≡ negsuc k → ReadingEnds pieces got
+  read_failed : got ≡ None → ReadingEnds pieces got
   -- So many reads were made, and each gave some bytes.
   turns_used_up : length pieces ≡ 18446744073709551616 → ReadingEnds pieces got
 
 -- Reads, the last of which answered that: the pieces that came, one after the other, and why no other was read.
-pub record Reads (got : ℤ) : Type 0 where
+pub record Reads (got : Option ℕ) : Type 0 where
   pub pieces : List (List ℕ)
   pub none_empty : NoneEmpty pieces
   pub ends : ReadingEnds pieces got
 
 -- What is left to the system: the pieces are the beginning of that input, no read failed, and one that gave nothing was at its end.
-pub record PiecesOf (input : List ℕ) (pieces : List (List ℕ)) (got : ℤ) : Type 0 where
+pub record PiecesOf (input : List ℕ) (pieces : List (List ℕ)) (got : Option ℕ) : Type 0 where
   pub rest : List ℕ
   pub begins : input ≡ flatten pieces ++ rest
-  pub at_its_end : got ≡ pos 0 → rest ≡ []
-  pub none_failed : (k : ℕ) → got ≢ negsuc k
+  pub at_its_end : got ≡ Some 0 → rest ≡ []
+  pub none_failed : got ≢ None

@@ -1,6 +1,6 @@
 -- What the program writes is what is printed for an input of which the pieces that it names are the beginning, and the whole where reading
 -- came to the end.
-use Rattle.std.specs.Prelude.{ℕ, ◌+◌, ◌<◌, ◌≡◌, refl, ◌≢◌, length, take, replicate, ℤ, pos, negsuc}
+use Rattle.std.specs.Prelude.{ℕ, ◌+◌, ◌<◌, ◌≡◌, refl, ◌≢◌, length, take, replicate, Option, Some, None}
 use Rattle.std.proofs.Common.{sym, ◌∙◌, ap, arith, length-append}
 use mathlib.Core.List.{List, [], ◌∷◌, ◌++◌, foldl, flatten}
 use Rattle.decimal.specs.Scan.{ScanState, stands, scan_byte, finish, words_at}
@@ -19,7 +19,7 @@ pub read_and_answered : {words text : List ℕ} {t : Turn} {n : ℕ} → InputRe
 read_and_answered read responds = record { reads = read.reads; responds = rw read.leads at responds }
 
 -- That is printed for the whole input, though no more of it is read once its scan has failed.
-pub answers_whole_input : {input text : List ℕ} {got : ℤ} {n : ℕ} (answers : AnswersInput got text n) → PiecesOf input answers.reads.pieces got → length input < 18446744073709551616 →
+pub answers_whole_input : {input text : List ℕ} {got : Option ℕ} {n : ℕ} (answers : AnswersInput got text n) → PiecesOf input answers.reads.pieces got → length input < 18446744073709551616 →
     Prints input (take n text)
 answers_whole_input {input} {text} {got} {n} answers given short =
     answers.responds.to input (ap input_scanned given.begins ∙ scan_in_pieces (replicate 2048 0) read given.rest ∙ leads answers.reads.ends ∙ sym (as_scanned got given.none_failed))
@@ -27,14 +27,14 @@ answers_whole_input {input} {text} {got} {n} answers given short =
     read : List ℕ
     read = flatten answers.reads.pieces
 
-    as_scanned : (got : ℤ) → ((k : ℕ) → got ≢ negsuc k) → after_reads got read ≡ input_scanned read
-    as_scanned (pos n) none_failed = refl
-    as_scanned (negsuc k) none_failed = absurd (none_failed k refl)
+    as_scanned : (got : Option ℕ) → got ≢ None → after_reads got read ≡ input_scanned read
+    as_scanned (Some n) none_failed = refl
+    as_scanned None none_failed = absurd (none_failed refl)
 
     leads : ReadingEnds answers.reads.pieces got → foldl scan_byte (input_scanned read) given.rest ≡ input_scanned read
     leads (at_the_end is) = rw (given.at_its_end is)
     leads (scan_failed {words} is) = rw is (failed_stays words given.rest)
-    leads (read_failed {k} is) = absurd (given.none_failed k is)
+    leads (read_failed is) = absurd (given.none_failed is)
     leads (turns_used_up many) =
         let longer : length input ≡ length read + length given.rest = ap length given.begins ∙ length-append read given.rest in
         absurd (omega (arith, pieces_within answers.reads.none_empty))
@@ -47,7 +47,7 @@ gives_up (stands (Between count) words) = refl
 gives_up (stands (Inside count value) words) = refl
 
 -- After a read that failed the one line `input` is written: the answer is that of an input with such a byte behind what was read.
-pub answers_no_input : {text : List ℕ} {k n : ℕ} → AnswersInput (negsuc k) text n → take n text ≡ input_line
+pub answers_no_input : {text : List ℕ} {n : ℕ} → AnswersInput None text n → take n text ≡ input_line
 unfolding scan_byte
 answers_no_input answers = go (answers.responds.to (read ++ 0 ∷ []) leads)
   where

@@ -8,12 +8,14 @@ mod respond;
 
 ghost use Rattle.formula.specs.Responding.{AnswersInput};
 
-// Prints so many bytes of a text, which answer an input whose last read answered that. Where they cannot be written, the one line `output` on
-// standard error says so: the program has nothing else to tell it by. That a write writes what it is lent is left to the system.
-fn print<R: Print + Eprint>(rt: &R, got: isize, text: &[u8], count: usize)
-    requires { AnswersInput got text.now count }
+use decimal::Text;
+
+// Prints a text, which answers an input whose last read answered that. Where it cannot be written, the one line `output` on standard error
+// says so: the program has nothing else to tell it by. That a write writes what it is lent is left to the system.
+fn print<R: Print + Eprint>(rt: &R, got: Option<usize>, text: &Text)
+    requires { AnswersInput got text.now.lent.now text.now.at }
 {
-    if rt.write_all(&text[..count]).is_err() {
+    if rt.write_all(&text.lent[..text.at]).is_err() {
         let _ = rt.eprintln("output");
     }
 }
@@ -21,9 +23,8 @@ fn print<R: Print + Eprint>(rt: &R, got: isize, text: &[u8], count: usize)
 fn main(rt: HostRuntime) {
     let mut piece = [0u8; 4096];
     let mut words = [0u32; 2048];
-    let mut text = [0u8; 1024];
+    let mut lent = [0u8; 1024];
     let turn = read::read_input(&mut rt.stdin(), &mut piece, &mut words);
-    let at = turn.at;
-    let count = respond::respond(at, &mut words, &mut text);
-    print(&rt, turn.got, &text, count);
+    let text = respond::respond(turn.at, &mut words, &mut lent);
+    print(&rt, turn.got, &text);
 }

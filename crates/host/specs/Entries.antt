@@ -1,10 +1,9 @@
 -- What the two entries for a host in C answer, and what the inference entry leaves in its out bytes.
-use Rattle.std.specs.Prelude.{ℕ, ◌+◌, ◌*◌, ◌/◌, ◌%◌, ◌≡◌, ◌≢◌, cond, List, ◌++◌, ltb, length, take, drop}
+use Rattle.std.specs.Prelude.{ℕ, ◌+◌, ◌*◌, ◌/◌, ◌%◌, ◌≡◌, ◌≢◌, cond, Result, Ok, Err, List, ◌++◌, ltb, length, take, drop}
 use Rattle.lent.specs.Cleared.{zeros}
 use Rattle.lent.specs.Bytes.{from_bytes, to_bytes}
 use Rattle.inference.specs.Inference.{After, Infers, code_of as inferred_code, place_of}
-use Rattle.inference.specs.declared.Inferred.{Inferred}
-use Rattle.inference.specs.declared.Inferred.TheVariants.{Typed, Refused}
+use Rattle.inference.specs.declared.Untyped.{Untyped}
 use Rattle.answers.specs.Answers.{code_of, payload_of}
 use Rattle.machine.specs.Runs.{RunIs}
 use Rattle.machine.specs.declared.Ran.{Ran}
@@ -25,9 +24,9 @@ abbrev pub out_words : ℕ → ℕ
 out_words bytes = cond (ltb (bytes / 4) 1024) (bytes / 4) 1024
 
 -- Out is written on code 0 only: the type's words first, all later bytes untouched.
-abbrev pub out_after : Inferred → List ℕ → List ℕ → List ℕ
-out_after (Typed count) type_words out = to_bytes (take count type_words) ++ drop (4 * count) out
-out_after (Refused code place) type_words out = out
+abbrev pub out_after : Result ℕ Untyped → List ℕ → List ℕ → List ℕ
+out_after (Ok count) type_words out = to_bytes (take count type_words) ++ drop (4 * count) out
+out_after (Err untyped) type_words out = out
 
 -- Inference with these work and type words answers r, and leaves the bytes out' in the place of out.
 pub record InfersTo (words work type_words out out' : List ℕ) (r : ℕ) : Type 0 where

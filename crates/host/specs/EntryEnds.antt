@@ -1,5 +1,5 @@
 -- How the run entry ends on a table of whole nodes that the check accepts, and what fuel does to that.
-use Rattle.std.specs.Prelude.{ℕ, ◌/◌, ◌%◌, ◌≡◌, ◌⊎◌, List, length}
+use Rattle.std.specs.Prelude.{ℕ, ◌/◌, ◌%◌, ◌≡◌, ◌⊎◌, Ok, List, length}
 use Rattle.std.proofs.Common.{sym, ◌∙◌, ap, subst, subst₂, ⊎_elim, arith}
 use Rattle.std.proofs.Math.Logic.{⊎_map}
 use Rattle.std.proofs.lemmas.List.{length-replicate}
@@ -11,7 +11,6 @@ use Rattle.language.specs.Integers.{Exception}
 use Rattle.language.specs.SmallStep.{raised, Step, Steps, Diverges}
 use Rattle.acceptance.specs.Refusals.{check_of}
 use Rattle.table.specs.ExpressionOf.{exp_of}
-use Rattle.acceptance.specs.declared.Verdict.TheVariants.{Accepted}
 use Rattle.semantics.specs.Limits.{AtLeast}
 use Rattle.semantics.specs.Answer.{DefinedAnswer, exception_answer}
 use Rattle.semantics.proofs.AnswerCodes.{answers_10_to_19}
@@ -52,7 +51,7 @@ less_entry_room_runs_out {a = a} reaches entry less = ⊎_elim (λ is. absurd (l
 
 -- ---- A table of whole nodes that the check accepts
 
-module _ {table : List ℕ} {n : ℕ} (whole : length table % 16 ≡ 0) (accepted : check_of (from_bytes table) ≡ Accepted n) where
+module _ {table : List ℕ} {n : ℕ} (whole : length table % 16 ≡ 0) (accepted : check_of (from_bytes table) ≡ Ok n) where
   runs : {fuel r : ℕ} → RunEntry table fuel r → RunsTo (from_bytes table) fuel r
   runs (part_of_a_node p is) = absurd (p whole)
   runs (whole_nodes p ran) = ran

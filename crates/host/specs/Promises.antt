@@ -2,7 +2,7 @@
 -- that the entry on these bytes answers the number r (`Entries`). The code of r is its low 8 bits, r % 256, and its place or payload the high
 -- 32, r / 4294967296. `Tells` and `RanOut` are those of the call, `EntryReaches` is defined in its file; that the bytes of a table are below
 -- 256 is true of every table that is lent.
-use Rattle.std.specs.Prelude.{ℕ, ◌/◌, ◌%◌, ◌<◌, ◌≡◌, ◌⊎◌, ◌≢◌, List, length}
+use Rattle.std.specs.Prelude.{ℕ, ◌/◌, ◌%◌, ◌<◌, ◌≡◌, ◌⊎◌, ◌≢◌, Ok, List, length}
 use Rattle.lent.specs.Bytes.{from_bytes}
 use Rattle.language.specs.Expression.{Exp}
 use Rattle.language.specs.Expression as L2
@@ -10,7 +10,6 @@ use Rattle.language.specs.Integers.{Exception}
 use Rattle.language.specs.SmallStep.{raised, Step, Steps, Diverges}
 use Rattle.acceptance.specs.Refusals.{check_of}
 use Rattle.table.specs.ExpressionOf.{exp_of}
-use Rattle.acceptance.specs.declared.Verdict.TheVariants.{Accepted}
 use Rattle.semantics.specs.Limits.{AtLeast}
 use Rattle.semantics.specs.Answer.{DefinedAnswer, exception_answer}
 use Rattle.semantics.specs.Reached.{answer_for}
@@ -58,7 +57,7 @@ loaded_never_stuck = Loaded.loaded_never_stuck
 
 -- ---- A table of whole nodes whose words the check accepts
 
-module _ {table : List ℕ} {n : ℕ} (whole : length table % 16 ≡ 0) (accepted : check_of (from_bytes table) ≡ Accepted n) where
+module _ {table : List ℕ} {n : ℕ} (whole : length table % 16 ≡ 0) (accepted : check_of (from_bytes table) ≡ Ok n) where
   -- Code and payload tell the end of the formula's small steps, or the code names what ran out.
   entry_tells_end : {fuel r : ℕ} → BytesOf8Bits table → RunEntry table fuel r → Tells (exp_of (from_bytes table)) (r % 256) (r / 4294967296) ⊎ RanOut (r % 256)
   entry_tells_end = EntryEnds.entry_tells_end whole accepted

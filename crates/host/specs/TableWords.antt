@@ -1,5 +1,5 @@
 -- The table of an entry: its length, and its words.
-use Rattle.std.specs.Prelude.{ℕ, ◌/◌, ◌%◌, ◌≤◌, ◌<◌, ◌≡◌, refl, ◌≢◌, Bool, true, false, cond, not, ◌||◌, List, [], eqb, ltb, length, take, drop}
+use Rattle.std.specs.Prelude.{ℕ, ◌/◌, ◌%◌, ◌≤◌, ◌<◌, ◌≡◌, refl, ◌≢◌, Bool, true, false, cond, not, ◌||◌, Err, List, [], eqb, ltb, length, take, drop}
 use Rattle.std.proofs.Common.{sym, subst, arith, take_at, lt-ltb, eqb-true, ltb-true, ltb-false}
 use Rattle.std.proofs.Math.Seq.{length-sets}
 use Rattle.std.proofs.lemmas.Bool.{eqb-false}
@@ -7,9 +7,9 @@ use Rattle.lent.specs.Bytes.{from_bytes, overwrite}
 use Rattle.lent.specs.Writing.{overwrite_fits}
 use Rattle.lent.specs.ByteLaws.{length-from_bytes}
 use Rattle.acceptance.specs.Refusals.{check_of}
-use Rattle.acceptance.specs.declared.Verdict.TheVariants.{Refused as Turned}
+use Rattle.acceptance.specs.declared.Refusal.TheVariants.{WrongCount}
 use Rattle.inference.specs.Inference.{leaves, turned}
-use Rattle.inference.specs.declared.Inferred.TheVariants.{Refused}
+use Rattle.inference.specs.declared.Untyped.TheVariants.{Refused}
 use Rattle.machine.specs.Runs.{refused_as}
 use Rattle.machine.specs.RunCall as Machine
 use Rattle.host.specs.Entries.{packed, Entry, part_of_a_node, whole_nodes, InfersTo, InfersOn, InferEntry, RunsTo, RunEntry}
@@ -36,7 +36,7 @@ or_true true b = refl
 or_true false true = refl
 or_true false false = refl
 
-long_is_refused : (words : List ℕ) → 2048 < length words → check_of words ≡ Turned 1 0
+long_is_refused : (words : List ℕ) → 2048 < length words → check_of words ≡ Err WrongCount
 unfolding check_of
 long_is_refused words above = rw (lt-ltb 2048 (length words) above, or_true (eqb (length words) 0) (not (eqb (length words % 4) 0)))
 
@@ -67,20 +67,20 @@ all_read table words₀ {words} right_length size is = go (length_is (length tab
 
 -- ---- A table of code 1
 
-module _ {words : List ℕ} (one : check_of words ≡ Turned 1 0) where
+module _ {words : List ℕ} (one : check_of words ≡ Err WrongCount) where
   refused_infer : {work type_words out out' : List ℕ} {r : ℕ} → (r ≡ packed 1 0) × (out' ≡ out) → InfersTo words work type_words out out' r
-  refused_infer (number, kept) = record { after = leaves (Refused 1 0) _ _; infers = turned one refl; number = number; out_is_after = kept }
+  refused_infer (number, kept) = record { after = leaves (Err (Refused WrongCount)) _ _; infers = turned one refl; number = number; out_is_after = kept }
 
   infer_refused : {work type_words out out' : List ℕ} {r : ℕ} → InfersTo words work type_words out out' r → (r ≡ packed 1 0) × (out' ≡ out)
   infer_refused i = infers_to_once i (refused_infer (refl, refl))
 
   refused_run : {fuel r : ℕ} → r ≡ packed 1 0 → RunsTo words fuel r
-  refused_run number = record { ran = refused_as 1 0; bindings_after = _; frames_after = _; runs = Machine.refused_run (sym one) refl; number = number }
+  refused_run number = record { ran = refused_as WrongCount; bindings_after = _; frames_after = _; runs = Machine.refused_run (sym one) refl; number = number }
 
   run_refused : {fuel r : ℕ} → RunsTo words fuel r → r ≡ packed 1 0
   run_refused i = runs_to_once i (refused_run refl)
 
-none_is_refused : check_of [] ≡ Turned 1 0
+none_is_refused : check_of [] ≡ Err WrongCount
 unfolding check_of
 none_is_refused = refl
 
@@ -88,8 +88,8 @@ none_is_refused = refl
 
 module _ {table words : List ℕ} {n : ℕ} (read : TableRead table words n) where
   -- What is answered of the words that are read is answered of the table, if the answer to code 1 is one.
-  answered : {CodeOne : Type 0} (Answered : List ℕ → Type 0) → ((words : List ℕ) → check_of words ≡ Turned 1 0 → CodeOne → Answered words) →
-      ((words : List ℕ) → check_of words ≡ Turned 1 0 → Answered words → CodeOne) → Answered (take n words) → Entry table CodeOne (Answered (from_bytes table))
+  answered : {CodeOne : Type 0} (Answered : List ℕ → Type 0) → ((words : List ℕ) → check_of words ≡ Err WrongCount → CodeOne → Answered words) →
+      ((words : List ℕ) → check_of words ≡ Err WrongCount → Answered words → CodeOne) → Answered (take n words) → Entry table CodeOne (Answered (from_bytes table))
   answered {CodeOne} Answered refused_as_lem as_refused a = go (wrong_length (length table)) refl (subst Answered read.are a)
     where
       go : (wrong : Bool) → wrong_length (length table) ≡ wrong → Answered (cond wrong [] (from_bytes table)) → Entry table CodeOne (Answered (from_bytes table))

@@ -1,5 +1,5 @@
 -- The type of an inference entry: the words that are lent for it, and its bytes.
-use Rattle.std.specs.Prelude.{ℕ, zero, suc, ◌*◌, ◌/◌, ◌≤◌, min, ◌≡◌, refl, List, ◌∷◌, length, take}
+use Rattle.std.specs.Prelude.{ℕ, zero, suc, ◌*◌, ◌/◌, ◌≤◌, min, ◌≡◌, refl, Result, Ok, Err, List, ◌∷◌, length, take}
 use Rattle.std.proofs.Common.{sym, ◌∙◌, ap, subst, arith, length-take-le}
 use Rattle.std.proofs.lemmas.List.{length-replicate}
 use Rattle.lent.specs.Cleared.{zeros}
@@ -9,8 +9,7 @@ use Rattle.lent.specs.Writing.{overwrite_fits}
 use Rattle.lent.specs.ByteLaws.{length-to_bytes}
 use Rattle.inference.specs.Inference.{leaves, Infers, code_of, place_of}
 use Rattle.inference.specs.TypeWithin.{type_within}
-use Rattle.inference.specs.declared.Inferred.{Inferred}
-use Rattle.inference.specs.declared.Inferred.TheVariants.{Typed, Refused}
+use Rattle.inference.specs.declared.Untyped.{Untyped}
 use Rattle.host.specs.Entries.{packed, out_after, InfersTo, InfersOn}
 use Rattle.host.specs.Rooms.{OutRoom}
 
@@ -35,26 +34,26 @@ module _ {room : ℕ} (out : List ℕ) (is : room ≡ min (length out / 4) 1024)
 -- ---- The bytes
 
 -- The type's words are lent, and its bytes have room.
-abbrev pub TypeRoom : Inferred → List ℕ → List ℕ → Type 0
-TypeRoom (Typed count) type_words out = (count ≤ length type_words) × (count ≤ 1024) × (4 * count ≤ length out)
-TypeRoom (Refused code place) type_words out = Unit {0}
+abbrev pub TypeRoom : Result ℕ Untyped → List ℕ → List ℕ → Type 0
+TypeRoom (Ok count) type_words out = (count ≤ length type_words) × (count ≤ 1024) × (4 * count ≤ length out)
+TypeRoom (Err untyped) type_words out = Unit {0}
 
 -- The number of an inference, and its bytes in the place of out.
-pub record Told (a : Inferred) (type_words out out' : List ℕ) (r : ℕ) : Type 0 where
+pub record Told (a : Result ℕ Untyped) (type_words out out' : List ℕ) (r : ℕ) : Type 0 where
   pub number : r ≡ packed (code_of a) (place_of a)
   pub out_is_after : out' ≡ out_after a type_words out
 
-pub type_told : {count : ℕ} (type_words : List ℕ) {out out' : List ℕ} {r : ℕ} → TypeRoom (Typed count) type_words out → r ≡ packed 0 count → out' ≡ overwrite (to_bytes (take count type_words)) out →
-    Told (Typed count) type_words out out' r
+pub type_told : {count : ℕ} (type_words : List ℕ) {out out' : List ℕ} {r : ℕ} → TypeRoom (Ok count) type_words out → r ≡ packed 0 count → out' ≡ overwrite (to_bytes (take count type_words)) out →
+    Told (Ok count) type_words out out' r
 type_told {count} type_words {out} (lent, few, room) number is =
     let size : length (to_bytes (take count type_words)) ≡ 4 * count = length-to_bytes (take count type_words) ∙ ap (λ n. 4 * n) (length-take-le count type_words lent) in
     record { number = number; out_is_after = is ∙ rw size at (overwrite_fits (to_bytes (take count type_words)) out (omega arith)) }
 
-pub type_room : {words work type_words work' type_words' : List ℕ} {a : Inferred} → Infers words work type_words (leaves a work' type_words') → {out : List ℕ} → length type_words' ≡ length type_words → OutRoom type_words out → TypeRoom a type_words' out
+pub type_room : {words work type_words work' type_words' : List ℕ} {a : Result ℕ Untyped} → Infers words work type_words (leaves a work' type_words') → {out : List ℕ} → length type_words' ≡ length type_words → OutRoom type_words out → TypeRoom a type_words' out
 type_room {words} {work} {type_words} {work'} {type_words'} {a} i {out} kept room = go a i
   where
-    go : (a : Inferred) → Infers words work type_words (leaves a work' type_words') → TypeRoom a type_words' out
-    go (Typed count) i =
+    go : (a : Result ℕ Untyped) → Infers words work type_words (leaves a work' type_words') → TypeRoom a type_words' out
+    go (Ok count) i =
         let within = type_within i refl in
         (omega arith, omega (arith, room.few), omega (arith, room.within))
-    go (Refused code place) i = tt
+    go (Err untyped) i = tt

@@ -8,20 +8,20 @@ ghost use Rattle.host.specs.Rooms.{wrong_length, OutRoom};
 ghost use Rattle.host.specs.TableWords.{TableRead};
 ghost use Rattle.host.specs.TypeBytes.{TypeRoom, Told};
 
-use inference::Inferred;
+use inference::Untyped;
 
 // A code in the low 8 bits, a place or payload in the high 32.
 fn pack(code: u32, payload: u32) -> u64
     ensures { result ≡ packed code payload }
 {
-    (code as u64) + 4294967296 * (payload as u64)
+    u64::from(code) + 4294967296 * u64::from(payload)
 }
 
 // Is a table of so many bytes code 1? The check refuses more than 2,048 words, so they need not be read.
 fn wrong_length(bytes: usize) -> bool
     ensures { result ≡ wrong_length bytes }
 {
-    if bytes % 16 == 0 { 8192 < bytes } else { true }
+    bytes % 16 != 0 || 8192 < bytes
 }
 
 // The words of a table come to the beginning of `words`, and their count is answered: none if the length is wrong, which is code 1 as well.
@@ -39,16 +39,16 @@ fn read_table(table: &[u8], words: &mut [u32]) -> usize
 // ---- The inference entry
 
 // The number of an inference, and the bytes of its type.
-fn tell(inferred: Inferred, types: &[u32], out: &mut [u8]) -> u64
+fn tell(inferred: Result<usize, Untyped>, types: &[u32], out: &mut [u8]) -> u64
     requires { TypeRoom inferred types.now out.old }
     ensures { Told inferred types.now out.old out.new result }
 {
     match inferred {
-        Inferred::Typed(count) => {
+        Ok(count) => {
             lent::write_bytes(&types[..count], out);
             pack(0, count as u32)
         }
-        Inferred::Refused { code, place } => pack(code, place),
+        Err(untyped) => pack(untyped.code(), untyped.place()),
     }
 }
 
@@ -61,21 +61,13 @@ fn infer_on(words: &[u32], work: &mut [u32], types: &mut [u32], out: &mut [u8]) 
     tell(inferred, types, out)
 }
 
-// How many words of a type have room in so many bytes: whole ones only, 1,024 at most.
-fn out_words(bytes: usize) -> usize
-    ensures { result ≡ min (bytes / 4) 1024 }
-{
-    let n = bytes / 4;
-    if n < 1024 { n } else { 1024 }
-}
-
 // The same in slices of its own: work for 512 nodes, and as many words of a type as `out` has, 1,024 at most.
 fn infer_words(words: &[u32], out: &mut [u8]) -> u64
     ensures { InfersOn words.now out.old out.new result }
 {
     let mut work = [0u32; 12304];
     let mut types = [0u32; 1024];
-    let room = out_words(out.len());
+    let room = (out.len() / 4).min(1024);
     infer_on(words, &mut work, &mut types[..room], out)
 }
 

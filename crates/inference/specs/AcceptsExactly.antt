@@ -1,8 +1,7 @@
 -- Inference accepts a formula exactly when the typing rules give it some type; and a formula with some type has a most general one
 -- (lecture notes, Korollar 2).
-use Rattle.std.specs.Prelude.{ℕ, ◌≤◌, ◌≡◌, refl, ◌↔◌, ◌⊎◌, List, [], length}
+use Rattle.std.specs.Prelude.{ℕ, ◌≤◌, ◌≡◌, refl, ◌↔◌, ◌⊎◌, List, [], length, Option, None, Some, Result, Ok}
 use Rattle.std.proofs.Common.{sym, ◌∙◌, inl, inr, arith}
-use Rattle.std.proofs.Math.Option.{Option, none, some}
 use Rattle.language.specs.Ty.{Ty}
 use Rattle.language.specs.Environment.{empty}
 use Rattle.language.specs.Typing.{Has}
@@ -10,12 +9,12 @@ use Rattle.language.specs.Principal.{Principal}
 use Rattle.table.specs.Node.{node_at}
 use Rattle.acceptance.specs.Refusals.{check_of}
 use Rattle.table.specs.ExpressionOf.{exp_of}
-use Rattle.acceptance.specs.declared.Verdict.TheVariants.{Accepted}
+use Rattle.acceptance.specs.declared.Refusal.{Refusal}
 use Rattle.equations.specs.Inferred.{inferred, RightType}
 use Rattle.inference.specs.Textbook.{right_type_inferred}
 use Rattle.inference.specs.Inference.{code_of, work_for, After, Infers, turned, work_short, no_type, out_short, typed}
 
-module _ {words work out : List ℕ} {n : ℕ} {a : After} (checked : check_of words ≡ Accepted n) (enough : work_for n ≤ length work) (i : Infers words work out a) where
+module _ {words work out : List ℕ} {n : ℕ} {a : After} (checked : check_of words ≡ Ok n) (enough : work_for n ≤ length work) (i : Infers words work out a) where
   abbrev code : ℕ
   code = code_of a.answer
 
@@ -30,7 +29,7 @@ module _ {words work out : List ℕ} {n : ℕ} {a : After} (checked : check_of w
   decided : Infers words work out a → Decided
   decided (turned v is) = absurd (let z : ◌≡◌ {A = ℕ} 0 1 = cc (sym checked ∙ v) in omega arith)
   decided (work_short {n = m} v short is) =
-      let both : Accepted n ≡ Accepted m = sym checked ∙ v in
+      let both : ◌≡◌ {A = Result ℕ Refusal} (Ok n) (Ok m) = sym checked ∙ v in
       let same : n ≡ m = cc in
       absurd (omega arith)
   decided (no_type v enough' untyped is) = refused (rw is refl) (λ (τ, t). untyped τ t)
@@ -50,9 +49,9 @@ module _ {words work out : List ℕ} {n : ℕ} {a : After} (checked : check_of w
       go (refused six none_is) = ((λ c. absurd (zero_or_seven_not_six c six), λ t. absurd (none_is t)), (λ _. none_is, λ _. six))
 
 -- A checked table's formula with some type has a most general one.
-pub typable_has_most_general : (words : List ℕ) {n : ℕ} → check_of words ≡ Accepted n → {τ : Ty} → Has empty (exp_of words) τ → (μ : Ty) × Principal empty (exp_of words) μ
+pub typable_has_most_general : (words : List ℕ) {n : ℕ} → check_of words ≡ Ok n → {τ : Ty} → Has empty (exp_of words) τ → (μ : Ty) × Principal empty (exp_of words) μ
 typable_has_most_general words {n} checked {τ} t = go (inferred (node_at words) n) (right_type_inferred words [] [] checked)
   where
     go : (type : Option Ty) → RightType (exp_of words) type → (μ : Ty) × Principal empty (exp_of words) μ
-    go (some μ) p = (μ, p)
-    go none untyped = absurd (untyped τ t)
+    go (Some μ) p = (μ, p)
+    go None untyped = absurd (untyped τ t)

@@ -1,5 +1,5 @@
--- The public call: the slices that it lends on, and its answer by the verdict of the check.
-use Rattle.std.specs.Prelude.{ℕ, ◌≤◌, ◌≡◌, refl, List, ◌++◌, length, take, drop}
+-- The public call: the slices that it lends on, and its answer by what the check says.
+use Rattle.std.specs.Prelude.{ℕ, ◌≤◌, ◌≡◌, refl, List, ◌++◌, length, take, drop, Result, Ok, Err, IsErrAnd}
 use Rattle.std.proofs.Common.{sym, ◌∙◌, ap, subst, arith}
 use Rattle.std.proofs.Math.Seq.{length_front}
 use Rattle.lent.specs.Cleared.{zeros}
@@ -9,31 +9,18 @@ use Rattle.acceptance.specs.Refusals.{check_of}
 use Rattle.table.specs.ExpressionOf.{exp_at, exp_of}
 use Rattle.acceptance.specs.Checked.{Checked}
 use Rattle.acceptance.specs.Accepted.{accepted_is_checked, count_is}
-use Rattle.acceptance.specs.declared.Verdict.{Verdict}
-use Rattle.acceptance.specs.declared.Verdict.TheVariants.{Accepted, Refused as Turned}
-use Rattle.cells.specs.declared.Written.{Written}
-use Rattle.cells.specs.declared.Written.TheVariants.{Words, TooLong}
+use Rattle.acceptance.specs.declared.Refusal.{Refusal}
 use Rattle.inference.specs.TableCells.{cell_words, TreeRoom, WorkRoom}
 use Rattle.inference.specs.Inference.{work_for, work_cleared, leaves, Infers, turned, no_type, out_short, typed}
 use Rattle.inference.specs.OfFormula.{FormulaInfers, untyped, too_long, fitting}
-use Rattle.inference.specs.declared.Inferred.{Inferred}
-use Rattle.inference.specs.declared.Inferred.TheVariants.{Typed, Refused}
+use Rattle.inference.specs.declared.Untyped.{Untyped}
+use Rattle.inference.specs.declared.Untyped.TheVariants.{Refused}
 
--- ---- Answers handed up
+-- ---- Refusals handed up
 
--- A refusal of the check, with its code and place. An acceptance is none.
-abbrev pub handed_up : Verdict → Inferred
-handed_up (Accepted n) = Refused 0 0
-handed_up (Turned code place) = Refused code place
-
-pub refused_answer : {words work out : List ℕ} {w : Verdict} {code place : ℕ} {r : Inferred} → w ≡ check_of words → w ≡ Turned code place →
-    r ≡ handed_up w → Infers words work out (leaves r work out)
-refused_answer {work = work} {out} is e answer = turned (sym is ∙ e) (ap (λ r. leaves r work out) (answer ∙ ap handed_up e))
-
--- What came of writing a type.
-abbrev pub answer_of : Written → Inferred
-answer_of (Words count) = Typed count
-answer_of TooLong = Refused 7 0
+pub refused_answer : {words work out : List ℕ} {refusal : Refusal} {r : Result ℕ Untyped} → check_of words ≡ Err refusal → IsErrAnd r (λ e. e ≡ Refused refusal) → Infers words work out (leaves r work out)
+refused_answer {r = Ok count} checked given = absurd given
+refused_answer {work = work} {out} {r = Err e} checked given = turned checked (ap (λ e. leaves (Err e) work out) given)
 
 -- ---- The words of the cells
 
@@ -50,7 +37,7 @@ work_zeroed {work = work} {n = n} r part kept is = is ∙ ap zeros (length_front
 
 -- ---- The work slice
 
-module _ {words : List ℕ} {n : ℕ} (v : check_of words ≡ Accepted n) where
+module _ {words : List ℕ} {n : ℕ} (v : check_of words ≡ Ok n) where
   checked : Checked words n
   checked = accepted_is_checked words n v
 
@@ -63,7 +50,7 @@ module _ {words : List ℕ} {n : ℕ} (v : check_of words ≡ Accepted n) where
     }
 
     -- What is answered of the formula is the answer to the table.
-    pub answered : {out out' : List ℕ} {answer : Inferred} {zeroed : List ℕ} → FormulaInfers (exp_at (node_at words) n 0) out answer out' → zeroed ≡ zeros (work_for n) →
+    pub answered : {out out' : List ℕ} {answer : Result ℕ Untyped} {zeroed : List ℕ} → FormulaInfers (exp_at (node_at words) n 0) out answer out' → zeroed ≡ zeros (work_for n) →
         Infers words work out (leaves answer (zeroed ++ drop (work_for n) work) out')
     answered {out} {out'} {answer} i is = rw is (go (subst (λ m. FormulaInfers (exp_at (node_at words) m 0) out answer out') (sym (count_is checked)) i))
       where

@@ -1,7 +1,6 @@
 -- The cells of a node, of its children and of its operator's result are there.
-use Rattle.std.specs.Prelude.{ℕ, ◌<◌, ◌≡◌, Bool, true, false, cond, List, ltb}
+use Rattle.std.specs.Prelude.{ℕ, ◌<◌, ◌≡◌, Bool, true, false, cond, List, ltb, Some}
 use Rattle.std.proofs.Math.Path.{refl}
-use Rattle.std.proofs.Math.Option.{some}
 use Rattle.std.proofs.Common.{arith}
 use Rattle.table.specs.Node.{Node, Field, field_a, field_b, field_c, child, node_of, node_at}
 use Rattle.table.specs.Asked.{words_at}
@@ -24,7 +23,7 @@ module _ {words : List ℕ} {k : ℕ} {mem : List ℕ} (r : NodeReady words k me
   pub node_ready : Sound mem × HasNode mem k
   node_ready = (r.cells.sound, has_node r.below)
 
-  has_child : {node : Node} → node_at words k ≡ node → (f : Field) {c : ℕ} → child node f ≡ some c → HasNode mem c
+  has_child : {node : Node} → node_at words k ≡ node → (f : Field) {c : ℕ} → child node f ≡ Some c → HasNode mem c
   has_child e f stands = has_node (r.tree_in.closed.tree.descending.inside {f = f} r.below (record { stands = rw e stands }))
 
   module _ {w : NodeWords} (read : w ≡ words_at words k) where

@@ -1,6 +1,6 @@
 -- The cells of a solved table give its most general type, or it has none.
-use Rattle.std.specs.Prelude.{ℕ, ◌+◌, ◌-◌, ◌≤◌, ◌<◌, ◌≡◌, refl, true, false, Bool, List, [], ◌∷◌, length, get_or}
-use Rattle.std.proofs.Common.{sym, ◌∙◌, ap, arith}
+use Rattle.std.specs.Prelude.{ℕ, ◌+◌, ◌-◌, ◌≤◌, ◌<◌, ◌≡◌, refl, true, false, List, [], ◌∷◌, length, get_or, Option, ok_or, Result, Ok, Err, IsErrAnd}
+use Rattle.std.proofs.Common.{◌∙◌, ap, arith}
 use Rattle.std.proofs.Math.Path.{fun_ext}
 use Rattle.std.proofs.Math.ListN.{get_or-eq_default}
 use Rattle.language.specs.Ty.{Ty, bool, int, ◌⇒◌, Subst}
@@ -20,11 +20,11 @@ use Rattle.cells.specs.Cells.{Sat, Grounds}
 use Rattle.cells.specs.Grounded.{grounded_satisfies, grounded_then_any}
 use Rattle.cells.specs.Layout.{cells_in, store_of}
 use Rattle.cells.specs.StoreLaws.{same_store}
-use Rattle.cells.specs.declared.Written.{Written}
+use Rattle.cells.specs.declared.Clash.{Clash}
 use Rattle.inference.specs.TableCells.{cell_words, NodesSolved, TreeRoom, unknowns}
 use Rattle.inference.specs.OfFormula.{TypesFound, types, no_types, FormulaInfers, untyped, too_long, fitting}
-use Rattle.inference.specs.InferCall.{answer_of}
-use Rattle.inference.specs.declared.Inferred.TheVariants.{Refused}
+use Rattle.inference.specs.declared.Untyped.{Untyped}
+use Rattle.inference.specs.declared.Untyped.TheVariants.{NoType, OutTooShort}
 
 -- ---- Unknowns and cells
 
@@ -60,10 +60,11 @@ module _ {words : List ℕ} {n : ℕ} {before new : List ℕ} (room : TreeRoom w
   untypable none τ d = let (s, h) = (typed_exactly_solvable room.tree_in.closed).0 (τ, d) in none s h
 
   -- The equations clash.
-  pub clash_found : {mem : List ℕ} → Outcome new mem (NodesSolved words n) false → TypesFound formula mem false
-  clash_found o = no_types (untypable (λ s h. o.says (with_constants s) (at_first s) (demanded s h)))
+  pub clash_found : {mem : List ℕ} {clash : Clash} {r : Result (Unit {0}) Untyped} → Outcome new mem (NodesSolved words n) (Err clash) → IsErrAnd r (λ e. e ≡ NoType) → TypesFound formula mem r
+  clash_found {r = Ok u} o given = absurd given
+  clash_found {r = Err e} o given = rw given (no_types (untypable (λ s h. o.says (with_constants s) (at_first s) (demanded s h))))
 
-  module _ {mem : List ℕ} (o : Outcome new mem (NodesSolved words n) true) where
+  module _ {mem : List ℕ} {u : Unit {0}} (o : Outcome new mem (NodesSolved words n) (Ok u)) where
     satisfies : (s : Subst) → Solves s (equations_below (node_at words) n) → Sat (with_constants s) (store_of mem)
     satisfies s h = (o.says.keeps (with_constants s)).0 (at_first s, demanded s h)
 
@@ -74,32 +75,29 @@ module _ {words : List ℕ} {n : ℕ} {before new : List ℕ} (room : TreeRoom w
     })
 
     -- Every cell evaluates, or a type would contain itself.
-    pub tested_found : {tested : List ℕ} (ok : Bool) → GroundTested mem tested ok → TypesFound formula tested ok
-    tested_found {tested} true g =
+    pub grounded_found : {tested : List ℕ} {u : Unit {0}} → GroundTested mem tested true → TypesFound formula tested (Ok u)
+    grounded_found {tested} g =
         let (γ, grounds) = g.says in
         let some = room.tree_in.closed.tree.root in
         let whole : length tested ≡ cell_words n = g.same.same_length ∙ o.same_length ∙ started.same_length ∙ room.whole in
         types {τ = γ 4} g.ready (omega arith) (rw (same_store g.same) (grounds.at 4)) (grounded_principal grounds)
-    tested_found false g = no_types (untypable (λ s h. g.says (with_constants s) (satisfies s h)))
+
+    pub ungrounded_found : {tested : List ℕ} → GroundTested mem tested false → TypesFound formula tested (Err NoType)
+    ungrounded_found g = no_types (untypable (λ s h. g.says (with_constants s) (satisfies s h)))
 
 -- ---- The answer
 
-never : false ≡ true → ⊥
-never e = let z : ◌≡◌ {A = ℕ} 0 1 = cc in omega arith
-
 module _ {e : Exp} {mem : List ℕ} where
-  pub ready_to_write : {ok : Bool} → TypesFound e mem ok → ok ≡ true → Unnumbered mem × (4 < cells_in mem)
-  ready_to_write (types ready inside evaluates principal) yes_it_is = (ready, inside)
-  ready_to_write (no_types none) yes_it_is = absurd (never yes_it_is)
+  pub ready_to_write : {u : Unit {0}} → TypesFound e mem (Ok u) → Unnumbered mem × (4 < cells_in mem)
+  ready_to_write (types ready inside evaluates principal) = (ready, inside)
 
-  pub found_none : {out : List ℕ} {ok : Bool} → TypesFound e mem ok → ok ≡ false → FormulaInfers e out (Refused 6 0) out
-  found_none (types ready inside evaluates principal) not_so = absurd (never (sym not_so))
-  found_none (no_types none) not_so = untyped none refl refl
+  pub found_none : {out : List ℕ} {untyped_is : Untyped} {r : Result ℕ Untyped} → TypesFound e mem (Err untyped_is) → IsErrAnd r (λ e'. e' ≡ untyped_is) → FormulaInfers e out r out
+  found_none {r = Ok count} found given = absurd given
+  found_none {r = Err e'} (no_types none) given = untyped none (ap Err given) refl
 
-  pub found_written : {out out' : List ℕ} {ok : Bool} {w : Written} → TypesFound e mem ok → ok ≡ true → CellWritten mem 4 out out' w → FormulaInfers e out (answer_of w) out'
-  found_written (no_types none) yes_it_is written = absurd (never yes_it_is)
-  found_written {out} {out'} {w = w} (types {τ} ready inside evaluates principal) yes_it_is written = go (written.is τ evaluates)
+  pub found_written : {u : Unit {0}} {out out' : List ℕ} {w : Option ℕ} → TypesFound e mem (Ok u) → CellWritten mem 4 out out' w → FormulaInfers e out (ok_or w OutTooShort) out'
+  found_written {out = out} {out'} {w = w} (types {τ} ready inside evaluates principal) written = go (written.is τ evaluates)
     where
-      go : TypeWritten (words_of τ) out out' w → FormulaInfers e out (answer_of w) out'
-      go (fits enough is after) = fitting principal enough (ap answer_of is) after
-      go (over short is same) = too_long principal short (ap answer_of is) same
+      go : TypeWritten (words_of τ) out out' w → FormulaInfers e out (ok_or w OutTooShort) out'
+      go (fits enough is after) = fitting principal enough (ap (λ w. ok_or w OutTooShort) is) after
+      go (over short is same) = too_long principal short (ap (λ w. ok_or w OutTooShort) is) same

@@ -3,64 +3,98 @@
 
 mod rules;
 
-ghost use Rattle.std.specs.Prelude.{◌≡◌};
+ghost use Rattle.std.specs.Prelude.{◌≡◌, Ok};
 ghost use Rattle.lent.specs.Cleared.{zeros};
 ghost use Rattle.table.specs.Node.{node_at};
 ghost use Rattle.acceptance.specs.Refusals.{check_of};
 ghost use Rattle.table.specs.ExpressionOf.{exp_at};
-ghost use Rattle.acceptance.specs.declared.Verdict.TheVariants.{Accepted};
 ghost use Rattle.inference.specs.TableCells.{TreeRoom, WorkRoom};
-ghost use Rattle.inference.specs.Inference.{work_for, leaves, Infers};
+ghost use Rattle.inference.specs.Inference.{untyped_code, untyped_place, work_for, leaves, Infers};
 ghost use Rattle.inference.specs.OfFormula.{TypesFound, FormulaInfers};
-ghost use Rattle.inference.specs.InferCall.{handed_up, answer_of};
+ghost use Rattle.inference.specs.declared.Untyped.TheVariants.{Refused, NoType};
 
-use acceptance::Verdict;
-use cells::Written;
+use acceptance::Refusal;
+use cells::Clash;
 
-// What inference of a table answers.
+// Why a table's formula is given no type: the first refusal in order.
 #[derive(Clone, Copy)]
-pub enum Inferred {
-    // 0: the most general type, of so many words, stands at the beginning of the out slice.
-    Typed(usize),
-    // 1 to 7: the first refusal in order.
-    Refused { code: u32, place: u32 },
+pub enum Untyped {
+    // 1 to 4: the check refuses the table.
+    Refused(Refusal),
+    // 5: the work slice is shorter than 24 × nodes + 16 words.
+    WorkTooShort,
+    // 6: no typing exists.
+    NoType,
+    // 7: the type has more words than the out slice.
+    OutTooShort,
+}
+
+impl Untyped {
+    // Its number, 1 to 7.
+    pub fn code(self) -> u32
+        ensures { result ≡ untyped_code self }
+    {
+        match self {
+            Untyped::Refused(refusal) => refusal.code(),
+            Untyped::WorkTooShort => 5,
+            Untyped::NoType => 6,
+            Untyped::OutTooShort => 7,
+        }
+    }
+
+    // The node at fault; 0 where no node is.
+    pub fn place(self) -> u32
+        ensures { result ≡ untyped_place self }
+    {
+        match self {
+            Untyped::Refused(refusal) => refusal.place(),
+            Untyped::WorkTooShort | Untyped::NoType | Untyped::OutTooShort => 0,
+        }
+    }
+}
+
+impl From<Refusal> for Untyped {
+    ghost from_gives = { λ refusal e. e ≡ Refused refusal };
+
+    fn from(refusal: Refusal) -> Untyped {
+        Untyped::Refused(refusal)
+    }
+}
+
+// Equations that clash have no solution.
+impl From<Clash> for Untyped {
+    ghost from_gives = { λ _ e. e ≡ NoType };
+
+    fn from(_clash: Clash) -> Untyped {
+        Untyped::NoType
+    }
 }
 
 // Gives the cells of a tree of n nodes their most general types, if there are any. Cell 4 is the root's.
-fn types(words: &[u32], n: u32, cells: &mut [u32]) -> bool
+fn types(words: &[u32], n: u32, cells: &mut [u32]) -> Result<(), Untyped>
     requires { TreeRoom words.now n cells.old }
     ensures { TypesFound (exp_at (node_at words.now) n 0) cells.new result }
 {
     cells::start(cells);
-    if rules::nodes(words, cells, n) {
-        return cells::grounded(cells);
-    }
-    false
-}
-
-// The answer that a written type gives.
-fn answer(written: Written) -> Inferred
-    ensures { result ≡ answer_of written }
-{
-    match written {
-        Written::Words(count) => Inferred::Typed(count),
-        Written::TooLong => Inferred::Refused { code: 7, place: 0 },
+    rules::nodes(words, cells, n)?;
+    if cells::grounded(cells) {
+        Ok(())
+    } else {
+        Err(Untyped::NoType)
     }
 }
 
-// The answer for a tree of n nodes, with cells for it.
-fn principal(words: &[u32], n: u32, cells: &mut [u32], out: &mut [u32]) -> Inferred
+// The word count of the type of a tree of n nodes, with cells for it.
+fn principal(words: &[u32], n: u32, cells: &mut [u32], out: &mut [u32]) -> Result<usize, Untyped>
     requires { TreeRoom words.now n cells.old }
     ensures { FormulaInfers (exp_at (node_at words.now) n 0) out.old result out.new }
 {
-    if types(words, n, cells) {
-        return answer(cells::write_type(cells, 4, out));
-    }
-    Inferred::Refused { code: 6, place: 0 }
+    types(words, n, cells)?;
+    cells::write_type(cells, 4, out).ok_or(Untyped::OutTooShort)
 }
 
 // The same with as many words of work as there must be, which are then cleared. Five of them are used for each cell.
-fn with_work(words: &[u32], n: u32, work: &mut [u32], out: &mut [u32]) -> Inferred
+fn with_work(words: &[u32], n: u32, work: &mut [u32], out: &mut [u32]) -> Result<usize, Untyped>
     requires { WorkRoom words.now n work.old }
     ensures answered { FormulaInfers (exp_at (node_at words.now) n 0) out.old result out.new }
     ensures zeroed { work.new ≡ zeros (work_for n) }
@@ -72,39 +106,23 @@ fn with_work(words: &[u32], n: u32, work: &mut [u32], out: &mut [u32]) -> Inferr
 }
 
 // The answer for a checked table of n nodes: 5 where the work slice is too short, else its type.
-fn accepted(words: &[u32], n: u32, work: &mut [u32], out: &mut [u32]) -> Inferred
-    requires { check_of words.now ≡ Accepted n }
+fn accepted(words: &[u32], n: u32, work: &mut [u32], out: &mut [u32]) -> Result<usize, Untyped>
+    requires { check_of words.now ≡ Ok n }
     ensures { Infers words.now work.old out.old (leaves result work.new out.new) }
 {
     let size = 24 * (n as usize) + 16;
     if work.len() < size {
-        return Inferred::Refused { code: 5, place: 0 };
+        return Err(Untyped::WorkTooShort);
     }
     with_work(words, n, &mut work[..size], out)
 }
 
-// The refusal of a check, handed up. An acceptance is none, and gives code 0.
-fn refused(checked: Verdict) -> Inferred
-    ensures { result ≡ handed_up checked }
-{
-    match checked {
-        Verdict::Accepted(_) => Inferred::Refused { code: 0, place: 0 },
-        Verdict::Refused { code, place } => Inferred::Refused {
-            code: code,
-            place: place,
-        },
-    }
-}
-
-// The inference of a table: the refusal of its check, 5, 6 or 7, or its most general type, which is then written at the beginning of
-// `out`. Codes 1 to 5 change no lent word; after 0, 6 and 7 the first 24 × nodes + 16 words of `work` are zero. `out` is written on code
-// 0 only, and no word after the type.
-pub fn infer(words: &[u32], work: &mut [u32], out: &mut [u32]) -> Inferred
+// The inference of a table: the word count of its most general type, which is then written at the beginning of `out`, or the refusal of its
+// check, 5, 6 or 7. Codes 1 to 5 change no lent word; otherwise the first 24 × nodes + 16 words of `work` are zero afterwards. `out` is written
+// where there is a type that fits, and no word after the type.
+pub fn infer(words: &[u32], work: &mut [u32], out: &mut [u32]) -> Result<usize, Untyped>
     ensures { Infers words.now work.old out.old (leaves result work.new out.new) }
 {
-    let checked = acceptance::check(words);
-    let Verdict::Accepted(n) = checked else {
-        return refused(checked);
-    };
+    let n = acceptance::check(words)?;
     accepted(words, n, work, out)
 }

@@ -1,7 +1,6 @@
 -- `move` decides the small steps: every expression steps, is a value, or is stuck, exactly as its move says.
-use Rattle.std.specs.Prelude.{ℕ, ◌≡◌, refl, true, false, ℤ}
+use Rattle.std.specs.Prelude.{ℕ, ◌≡◌, refl, true, false, ℤ, Option, None, Some}
 use Rattle.std.proofs.Common.{ap, subst, arith}
-use Rattle.std.proofs.Math.Option.{Option, none, some}
 use Rattle.language.specs.Expression.{Operator, Exp, Value, unit_element, boolean, integer, operator, constant, name}
 use Rattle.language.specs.Expression.{app, if_then_else, lambda, let_in, rec, constant_value, lambda_value, operator_value}
 use Rattle.language.specs.Integers.{Exception}
@@ -58,8 +57,8 @@ module _ {e : Exp} (around : Exp → Exp) (r : (e' : Exp) → Step e (next e') �
 
 -- What `as_integer` reads.
 data Reads : Exp → Option ℤ → Type 0 where
-  reads_integer : {n : ℤ} → Reads (constant (integer n)) (some n)
-  reads_none : {e : Exp} → Reads e none
+  reads_integer : {n : ℤ} → Reads (constant (integer n)) (Some n)
+  reads_none : {e : Exp} → Reads e None
 
 integer_read : (e : Exp) → Reads e (as_integer e)
 integer_read (constant unit_element) = reads_none

@@ -6,7 +6,6 @@ pub mod Written
 -- Lists are written into a slice.
 pub mod WrittenLaws
 pub mod Writing
-pub mod Zeroing
 pub mod ByteLaws
 -- Laws that callers cite.
 pub mod Prefix

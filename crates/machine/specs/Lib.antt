@@ -5,7 +5,6 @@ pub mod Runs
 pub mod Executing
 pub mod CodeTells
 pub mod CallReaches
-pub mod Clearing
 pub mod RunCall
 pub mod FormulaInRange
 pub mod CallEnds

@@ -2,6 +2,4 @@
 pub mod Operated
 pub mod Patterns
 -- What the code computes.
-pub mod Shift
-pub mod Wide
 pub mod Answers

@@ -1,7 +1,6 @@
 -- Along every run of a checked table the states are in scope. So every name is found, and a run gets stuck only at an application or an if.
-use Rattle.std.specs.Prelude.{ℕ, ◌<◌, refl, Bool, true, false, cond, List, [], ◌∷◌, eqb, ℤ}
+use Rattle.std.specs.Prelude.{ℕ, ◌<◌, refl, Bool, true, false, cond, List, [], ◌∷◌, eqb, ℤ, Some}
 use Rattle.std.proofs.Math.Path.{◌≡◌}
-use Rattle.std.proofs.Math.Option.{some}
 use Rattle.std.proofs.Common.{arith}
 use Rattle.language.specs.Expression.{Name, Operator, Constant, unit_element, boolean, integer, operator}
 use Rattle.language.specs.Integers.{Outcome, number, truth, exception, meaning}
@@ -62,7 +61,7 @@ module _ {nd : Nodes} {n : ℕ} (P : End → Type 0) where
 
   -- A name that has a binder is found, so P does not matter.
   found_in_scope : (x : Name) (at : ℕ) {b : ℕ} {frames : List Frame} (η : Chain) {ps : List ℕ} →
-      Follows nd n η ps → first_named nd x ps ≡ some b → FramesInScope nd n frames → Leads nd n P (newest_binding x η at frames)
+      Follows nd n η ps → first_named nd x ps ≡ Some b → FramesInScope nd n frames → Leads nd n P (newest_binding x η at frames)
   unfolding newest_binding first_named
   found_in_scope x at empty no_entry found rest = absurd (let z : ◌≡◌ {A = ℕ} 0 1 = cc in omega arith)
   found_in_scope x at {frames = frames} (bound y v η) (value_entry binds value others) found rest =
@@ -81,7 +80,7 @@ with_value env binds value = value_entry (rw (← node_is env) at binds) value (
 
 module _ {nd : Nodes} {n : ℕ} (t : ClosedTree nd n) where
   -- The child's scope is its parent's, with the parent before it where the parent binds.
-  enters : {p c : ℕ} {node : Node} {η η' : Chain} (f : Field) → EnvironmentOf nd n p node η → child node f ≡ some c →
+  enters : {p c : ℕ} {node : Node} {η η' : Chain} (f : Field) → EnvironmentOf nd n p node η → child node f ≡ Some c →
       Follows nd n η' (cond (binds_in node f) (p ∷ scope nd p) (scope nd p)) → EnvironmentOf nd n c (nd c) η'
   enters {p} {c} {η' = η'} f env stands h =
       let kid : Kid nd p f c = record { stands = rw (node_is env) stands } in

@@ -1,7 +1,6 @@
 -- Each step of the machine is one small step of what its state stands for, or none and less work is left; where the machine ends, the
 -- small steps end as its answer tells.
-use Rattle.std.specs.Prelude.{ℕ, ◌+◌, ◌<◌, ◌≡◌, refl, Bool, true, false, cond, List, eqb, ℤ}
-use Rattle.std.proofs.Math.Option.{none, some}
+use Rattle.std.specs.Prelude.{ℕ, ◌+◌, ◌<◌, ◌≡◌, refl, Bool, true, false, cond, List, eqb, ℤ, None, Some}
 use Rattle.std.proofs.Common.{arith}
 use Rattle.language.specs.Expression.{Name, Operator, Constant, unit_element, boolean, integer, operator, Exp, constant, name, app, if_then_else, rec, Closed}
 use Rattle.language.specs.Expression as L2
@@ -37,7 +36,7 @@ pub data Simulates (nd : Nodes) (n : ℕ) (e : Exp) (left : ℕ) : Step → Type
 -- Whether a value is an integer, and what the machine does where it is none.
 data Integral : Value → Exp → Type 0 where
   integral : {m : ℤ} → Integral (integer_value m) (constant (integer m))
-  other : {v : Value} {w : Exp} → as_integer w ≡ none → ((o : Operator) → with_first o v ≡ operator_with_other o) →
+  other : {v : Value} {w : Exp} → as_integer w ≡ None → ((o : Operator) → with_first o v ≡ operator_with_other o) →
       ((o : Operator) (m : ℤ) (k : ℕ) (frames : List Frame) → completed o m v k frames ≡ at_end (stuck_at k)) → Integral v w
 
 stuck_application : {f w : Exp} → L2.Value f → L2.Value w → Moves.applied_as (as_function f) w ≡ stuck → Small.Stuck (app f w)
@@ -139,7 +138,7 @@ module _ {nd : Nodes} {n : ℕ} (descending : Descending nd n) where
   unfolding close work frames_work
   evaluate_simulated {k} {η} {σ} {frames} {context} below chain around c = rw (exp_is descending k below) (go (nd k) refl)
     where
-      inside : {node : Node} {j : ℕ} (f : Field) → nd k ≡ node → child node f ≡ some j → j < n
+      inside : {node : Node} {j : ℕ} (f : Field) → nd k ≡ node → child node f ≡ Some j → j < n
       inside {j} f e stands =
           let kid : Kid nd k f j = record { stands = rw e stands } in
           descending.inside below kid

@@ -1,6 +1,5 @@
 -- What the parts of the machine stand for in the language. Relations, since an operator with a value that is no integer forgets it.
-use Rattle.std.specs.Prelude.{ℕ, ◌+◌, ◌<◌, ◌≡◌, Bool, List, [], ◌∷◌, ℤ}
-use Rattle.std.proofs.Math.Option.{none}
+use Rattle.std.specs.Prelude.{ℕ, ◌+◌, ◌<◌, ◌≡◌, Bool, List, [], ◌∷◌, ℤ, None}
 use Rattle.language.specs.Expression.{Name, Operator, unit_element, boolean, integer, operator, Exp, constant, name, app, if_then_else, lambda, let_in, rec, Closed}
 use Rattle.language.specs.Expression as L2
 use Rattle.language.specs.Move.{as_integer}
@@ -22,7 +21,7 @@ module _ (nd : Nodes) (n : ℕ) where
       an_integer : {m : ℤ} → ValueFor (integer_value m) (constant (integer m))
       an_operator : {o : Operator} → ValueFor (operator_value o) (constant (operator o))
       with_integer : {o : Operator} {m : ℤ} → ValueFor (operator_with o m) (app (constant (operator o)) (constant (integer m)))
-      with_other : {o : Operator} {w : Exp} → L2.Value w → as_integer w ≡ none → ValueFor (operator_with_other o) (app (constant (operator o)) w)
+      with_other : {o : Operator} {w : Exp} → L2.Value w → as_integer w ≡ None → ValueFor (operator_with_other o) (app (constant (operator o)) w)
       a_closure : {x : Name} {k : ℕ} {η : Chain} {σ : Replacement} → k < n → ChainFor η σ → ValueFor (closure x k η) (lambda x (close (hide x σ) (at k)))
 
     -- An environment stands for what it puts in for names: closed expressions. What it does not bind stays.

@@ -1,11 +1,8 @@
 -- What a table answers when it is asked for the words of a node and for the binder of a name.
-use Rattle.std.specs.Prelude.{ℕ, ◌+◌, ◌*◌, cond, List, ltb}
-use Rattle.std.proofs.Math.Option.{Option, none, some}
+use Rattle.std.specs.Prelude.{ℕ, ◌+◌, ◌*◌, cond, List, ltb, Option, None}
 use Rattle.table.specs.Node.{word_at, node_at, count_of}
 use Rattle.table.specs.Scope.{binder_of}
 use Rattle.table.specs.declared.NodeWords.{NodeWords}
-use Rattle.table.specs.declared.Bound.{Bound}
-use Rattle.table.specs.declared.Bound.TheVariants.{At, Nowhere}
 
 -- The words of node k; a word past the end is 0.
 abbrev pub words_at : List ℕ → ℕ → NodeWords
@@ -17,10 +14,6 @@ words_at words k =
       c = word_at words (4 * k + 3);
     }
 
-abbrev pub binder_answer : Option ℕ → Bound
-binder_answer none = Nowhere
-binder_answer (some b) = At b
-
 -- The binder of node k of a table. A node that is no name or is not there has none.
-abbrev pub binder_in : List ℕ → ℕ → Bound
-binder_in words k = binder_answer (cond (ltb k (count_of words)) (binder_of (node_at words) k) none)
+abbrev pub binder_in : List ℕ → ℕ → Option ℕ
+binder_in words k = cond (ltb k (count_of words)) (binder_of (node_at words) k) None

@@ -1,10 +1,9 @@
 -- A tree in which every name is bound stands for a closed expression. What is free at a node is bound in the node's scope, and the root's scope is empty.
-use Rattle.std.specs.Prelude.{ℕ, ◌<◌, ◌≡◌, ◌≢◌, Bool, eqb}
+use Rattle.std.specs.Prelude.{ℕ, ◌<◌, ◌≡◌, ◌≢◌, Bool, eqb, Some}
 use Rattle.std.proofs.Math.Path.{refl, sym}
 use Rattle.std.proofs.Common.{◌∙◌, inl, inr, arith, ne_eqb}
 use Rattle.std.proofs.Math.Bool.{true, false, cond}
 use mathlib.Core.List.{[], ◌∷◌}
-use Rattle.std.proofs.Math.Option.{some}
 use Rattle.language.specs.Expression.{Name, Free, Closed}
 use Rattle.table.specs.Node.{Node, Nodes, constant_node, name_node, application_node, if_node, lambda_node, let_node, rec_node, Field, field_a, field_b, field_c, child, Kid}
 use Rattle.table.specs.Scope.{binds_in, enter, scope, is_named, first_named}
@@ -14,7 +13,7 @@ use Rattle.table.specs.TreeLaws.{climb_root, climb_kid, up}
 use Rattle.table.specs.ExpressionLaws.{exp_is}
 
 abbrev Bound : Nodes → ℕ → Name → Type 0
-Bound nd k x = (b : ℕ) × (first_named nd x (scope nd k) ≡ some b)
+Bound nd k x = (b : ℕ) × (first_named nd x (scope nd k) ≡ Some b)
 
 -- Does the node bind x in the child in that field?
 abbrev binds_name_in : Name → Node → Field → Bool
@@ -39,7 +38,7 @@ module _ {nd : Nodes} {n : ℕ} (closed : ClosedTree nd n) where
   from_children : (k : ℕ) → k < n → ((f : Field) (c : ℕ) → Kid nd k f c → FreeIsBound c) → FreeIsBound k
   from_children k below kids x free = at (nd k) refl (rw (exp_is closed.tree.descending k below) at free)
     where
-      by : {node : Node} {c : ℕ} (f : Field) → nd k ≡ node → child node f ≡ some c → binds_name_in x node f ≡ false → Free x (exp_at nd n c) → Bound nd k x
+      by : {node : Node} {c : ℕ} (f : Field) → nd k ≡ node → child node f ≡ Some c → binds_name_in x node f ≡ false → Free x (exp_at nd n c) → Bound nd k x
       by {node} {c} f e stands other h =
           let kid : Kid nd k f c = record { stands = rw e stands } in
           bound_around closed.tree x below kid (rw e other) (kids f c kid x h)
@@ -60,7 +59,7 @@ module _ {nd : Nodes} {n : ℕ} (closed : ClosedTree nd n) where
       at (let_node y e₁ e₂) e (inr h) = by field_c e refl (other_name h.0) h.1
       at (rec_node y b) e h = by field_b e refl (other_name h.0) h.1
 
-  pub free_is_bound : (k : ℕ) → k < n → (x : Name) → Free x (exp_at nd n k) → (b : ℕ) × (first_named nd x (scope nd k) ≡ some b)
+  pub free_is_bound : (k : ℕ) → k < n → (x : Name) → Free x (exp_at nd n k) → (b : ℕ) × (first_named nd x (scope nd k) ≡ Some b)
   free_is_bound = up closed.tree FreeIsBound from_children
 
 pub root_closed : {nd : Nodes} {n : ℕ} → ClosedTree nd n → Closed (exp_at nd n 0)

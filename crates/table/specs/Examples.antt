@@ -1,6 +1,5 @@
 -- Tables that are read, computed on the definitions.
-use Rattle.std.specs.Prelude.{ℕ, ◌≡◌, refl, List, [], ◌∷◌, true, false, pos}
-use Rattle.std.proofs.Math.Option.{some}
+use Rattle.std.specs.Prelude.{ℕ, ◌≡◌, refl, List, [], ◌∷◌, true, false, pos, Some}
 use Rattle.language.specs.Expression.{plus, boolean, integer, operator, constant, name, app, if_then_else, lambda}
 use Rattle.table.specs.Node.{node_of, node_at}
 use Rattle.table.specs.Walk.{climb_from}
@@ -23,7 +22,7 @@ p1_expression : exp_of p1 ≡ app (lambda 0 (app (app (constant (operator plus))
 unfolding p1 exp_from node_at node_of
 p1_expression = refl
 
-p1_binder : binder_of (node_at p1) 5 ≡ some 1
+p1_binder : binder_of (node_at p1) 5 ≡ Some 1
 unfolding p1 node_at node_of first_named climb_from
 p1_binder = refl
 
@@ -36,7 +35,7 @@ p6_expression = refl
 shadowed : List ℕ
 shadowed = 7 ∷ 0 ∷ 1 ∷ 0 ∷ 7 ∷ 0 ∷ 2 ∷ 0 ∷ 4 ∷ 0 ∷ 0 ∷ 0 ∷ []
 
-nearest_binds : binder_of (node_at shadowed) 2 ≡ some 1
+nearest_binds : binder_of (node_at shadowed) 2 ≡ Some 1
 unfolding shadowed node_at node_of first_named climb_from
 nearest_binds = refl
 

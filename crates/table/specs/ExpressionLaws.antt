@@ -1,15 +1,14 @@
 -- The law of the expression at a node, which nothing else looks behind.
 use Prim.Native.Nat.{ℕ, zero, suc, ◌+◌, ◌≤◌, ◌<◌}
-use Rattle.std.specs.Prelude.{◌≡◌, refl}
+use Rattle.std.specs.Prelude.{◌≡◌, refl, Some}
 use Rattle.std.proofs.Common.{ap, arith}
-use Rattle.std.proofs.Math.Option.{some}
 use Rattle.language.specs.Expression.{Exp, lambda, rec}
 use Rattle.table.specs.Node.{Node, Nodes, Field, field_a, field_b, field_c, child, Kid, constant_node, name_node, application_node, if_node, lambda_node, let_node, rec_node}
 use Rattle.table.specs.Tree.{Descending}
 use Rattle.table.specs.ExpressionOf.{shape, exp_from, exp_at}
 
 -- A node's shape depends on the expressions at its children only.
-shape_of_children : {at at' : ℕ → Exp} (node : Node) → ((f : Field) (c : ℕ) → child node f ≡ some c → at c ≡ at' c) → shape at node ≡ shape at' node
+shape_of_children : {at at' : ℕ → Exp} (node : Node) → ((f : Field) (c : ℕ) → child node f ≡ Some c → at c ≡ at' c) → shape at node ≡ shape at' node
 shape_of_children (constant_node c) h = refl
 shape_of_children (name_node x) h = refl
 shape_of_children (application_node l r) h = cc (h field_a l refl, h field_b r refl)

@@ -1,7 +1,6 @@
 -- A node of a formula table as a value. Four words make a node: kind, a, b, c. Words enter here and in the refusals 1 and 2 only; all
 -- other theory is over `Nodes`.
-use Rattle.std.specs.Prelude.{ℕ, ◌+◌, ◌*◌, ◌/◌, List, [], ◌∷◌, ◌≡◌, eqb, length, get_or}
-use Rattle.std.proofs.Math.Option.{Option, none, some}
+use Rattle.std.specs.Prelude.{ℕ, ◌+◌, ◌*◌, ◌/◌, List, [], ◌∷◌, ◌≡◌, eqb, length, get_or, Option, None, Some}
 use Rattle.language.specs.Expression.{Name, Constant, unit_element, boolean, integer, operator}
 use Rattle.language.specs.Numbers.{operator_at, signed}
 
@@ -28,27 +27,27 @@ pub data Field : Type 0 where
 
 -- The child in a field, where there is one.
 abbrev pub child : Node → Field → Option ℕ
-child (constant_node k) f = none
-child (name_node x) f = none
-child (application_node l r) field_a = some l
-child (application_node l r) field_b = some r
-child (application_node l r) field_c = none
-child (if_node e₀ e₁ e₂) field_a = some e₀
-child (if_node e₀ e₁ e₂) field_b = some e₁
-child (if_node e₀ e₁ e₂) field_c = some e₂
-child (lambda_node x e) field_a = none
-child (lambda_node x e) field_b = some e
-child (lambda_node x e) field_c = none
-child (let_node x e₁ e₂) field_a = none
-child (let_node x e₁ e₂) field_b = some e₁
-child (let_node x e₁ e₂) field_c = some e₂
-child (rec_node x e) field_a = none
-child (rec_node x e) field_b = some e
-child (rec_node x e) field_c = none
+child (constant_node k) f = None
+child (name_node x) f = None
+child (application_node l r) field_a = Some l
+child (application_node l r) field_b = Some r
+child (application_node l r) field_c = None
+child (if_node e₀ e₁ e₂) field_a = Some e₀
+child (if_node e₀ e₁ e₂) field_b = Some e₁
+child (if_node e₀ e₁ e₂) field_c = Some e₂
+child (lambda_node x e) field_a = None
+child (lambda_node x e) field_b = Some e
+child (lambda_node x e) field_c = None
+child (let_node x e₁ e₂) field_a = None
+child (let_node x e₁ e₂) field_b = Some e₁
+child (let_node x e₁ e₂) field_c = Some e₂
+child (rec_node x e) field_a = None
+child (rec_node x e) field_b = Some e
+child (rec_node x e) field_c = None
 
 -- `Kid nd p f c`: node c stands in field f of node p.
 pub record Kid (nd : Nodes) (p : ℕ) (f : Field) (c : ℕ) : Type 0 where
-  pub stands : child (nd p) f ≡ some c
+  pub stands : child (nd p) f ≡ Some c
 
 -- ---- Words
 

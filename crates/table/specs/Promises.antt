@@ -1,7 +1,6 @@
 -- What is proved of the formula table, in one place. Each promise is restated here over the definitions alone; the file that proves it is
 -- the one that its proof cites. That the code's `binder` and `read` are their definitions stands in their contracts (src/).
-use Rattle.std.specs.Prelude.{ℕ, ◌<◌, ◌≡◌}
-use Rattle.std.proofs.Math.Option.{some}
+use Rattle.std.specs.Prelude.{ℕ, ◌<◌, ◌≡◌, Some}
 use Rattle.language.specs.Expression.{Name, Free, Closed}
 use Rattle.table.specs.Node.{Nodes, Field, Kid}
 use Rattle.table.specs.Walk.{climb}
@@ -36,7 +35,7 @@ exp_is = ExpressionLaws.exp_is
 
 module _ {nd : Nodes} {n : ℕ} (closed : ClosedTree nd n) where
   -- A free name of the expression at a node is bound in that node's scope.
-  free_is_bound : (k : ℕ) → k < n → (x : Name) → Free x (exp_at nd n k) → (b : ℕ) × (first_named nd x (scope nd k) ≡ some b)
+  free_is_bound : (k : ℕ) → k < n → (x : Name) → Free x (exp_at nd n k) → (b : ℕ) × (first_named nd x (scope nd k) ≡ Some b)
   free_is_bound = ClosedFormula.free_is_bound closed
 
   -- So the root's expression is closed.

@@ -1,6 +1,5 @@
 -- The table as the code reads it: a node in four words, and what a walk sees of it.
-use Rattle.std.specs.Prelude.{ℕ, ◌+◌, Bool, true, false, ◌&&◌, List, []}
-use Rattle.std.proofs.Math.Option.{Option, none, some}
+use Rattle.std.specs.Prelude.{ℕ, ◌+◌, Bool, true, false, ◌&&◌, List, [], Option, None, Some}
 use Rattle.language.specs.Expression.{Name}
 use Rattle.table.specs.Node.{Node, Nodes, Field, word_at, node_of}
 use Rattle.table.specs.Walk.{field_holding, climb_from}
@@ -8,8 +7,6 @@ use Rattle.table.specs.Scope.{binds_in, enter, is_named, first_named}
 use Rattle.table.specs.declared.NodeWords.{NodeWords}
 use Rattle.table.specs.declared.binders.Met.{Met}
 use Rattle.table.specs.declared.binders.Met.TheVariants.{Elsewhere, Above, Binding}
-use Rattle.table.specs.declared.Walked.{Walked}
-use Rattle.table.specs.declared.Walked.TheVariants.{Binder, On}
 
 -- ---- A node
 
@@ -28,19 +25,19 @@ met_as true = Binding
 met_as false = Above
 
 abbrev pub met_in : Option Field → Name → Node → Met
-met_in none x node = Elsewhere
-met_in (some f) x node = met_as (binds_in node f && is_named x node)
+met_in None x node = Elsewhere
+met_in (Some f) x node = met_as (binds_in node f && is_named x node)
 
 abbrev pub met : Node → Name → ℕ → Met
 met node x current = met_in (field_holding current node) x node
 
--- What the walk comes to at node p: it goes on from the current node, or from p where p is its parent.
-abbrev pub walked_as : Met → ℕ → ℕ → Walked
-walked_as Elsewhere current p = On current
-walked_as Above current p = On p
-walked_as Binding current p = Binder
+-- What the walk comes to at node p: the binder, where it ends, or it goes on in search of the parent of the current node, or of p where p is its parent.
+abbrev pub walked_as : Met → ℕ → ℕ → Option ℕ
+walked_as Elsewhere current p = Some current
+walked_as Above current p = Some p
+walked_as Binding current p = None
 
-abbrev pub walked : Node → Name → ℕ → ℕ → Walked
+abbrev pub walked : Node → Name → ℕ → ℕ → Option ℕ
 walked node x current p = walked_as (met node x current) current p
 
 -- The same where the child and the name have been compared.

@@ -1,7 +1,6 @@
 -- What the names of a table mean. A name is bound by the nearest enclosing lambda, let or rec of that name. A let binds in its body
 -- only, a rec in its body.
-use Rattle.std.specs.Prelude.{ℕ, Bool, true, false, cond, List, [], ◌∷◌, eqb}
-use Rattle.std.proofs.Math.Option.{Option, none, some}
+use Rattle.std.specs.Prelude.{ℕ, Bool, true, false, cond, List, [], ◌∷◌, eqb, Option, None, Some}
 use Rattle.language.specs.Expression.{Name}
 use Rattle.table.specs.Node.{Node, Nodes, constant_node, name_node, application_node, if_node, lambda_node, let_node, rec_node, Field, field_a, field_b, field_c}
 use Rattle.table.specs.Walk.{climb}
@@ -41,21 +40,21 @@ is_named x (rec_node y e) = eqb y x
 
 -- The first of some binder nodes that binds x.
 unfoldable pub first_named : Nodes → Name → List ℕ → Option ℕ
-first_named nd x [] = none
-first_named nd x (p ∷ ps) = cond (is_named x (nd p)) (some p) (first_named nd x ps)
+first_named nd x [] = None
+first_named nd x (p ∷ ps) = cond (is_named x (nd p)) (Some p) (first_named nd x ps)
 
 abbrev pub name_of : Node → Option Name
-name_of (constant_node k) = none
-name_of (name_node x) = some x
-name_of (application_node l r) = none
-name_of (if_node e₀ e₁ e₂) = none
-name_of (lambda_node x e) = none
-name_of (let_node x e₁ e₂) = none
-name_of (rec_node x e) = none
+name_of (constant_node k) = None
+name_of (name_node x) = Some x
+name_of (application_node l r) = None
+name_of (if_node e₀ e₁ e₂) = None
+name_of (lambda_node x e) = None
+name_of (let_node x e₁ e₂) = None
+name_of (rec_node x e) = None
 
 abbrev pub binder_for : Nodes → ℕ → Option Name → Option ℕ
-binder_for nd k none = none
-binder_for nd k (some x) = first_named nd x (scope nd k)
+binder_for nd k None = None
+binder_for nd k (Some x) = first_named nd x (scope nd k)
 
 -- The binder of the name node k.
 abbrev pub binder_of : Nodes → ℕ → Option ℕ

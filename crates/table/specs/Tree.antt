@@ -1,6 +1,5 @@
 -- A table as a tree: the facts that all floors above use of it.
-use Rattle.std.specs.Prelude.{ℕ, ◌<◌, ◌≡◌}
-use Rattle.std.proofs.Math.Option.{some}
+use Rattle.std.specs.Prelude.{ℕ, ◌<◌, ◌≡◌, Some}
 use Rattle.language.specs.Expression.{Name}
 use Rattle.table.specs.Node.{Nodes, name_node, Field, Kid}
 use Rattle.table.specs.Scope.{scope, first_named}
@@ -21,4 +20,4 @@ pub record Tree (nd : Nodes) (n : ℕ) : Type 0 where
 -- A tree in which every name is bound.
 pub record ClosedTree (nd : Nodes) (n : ℕ) : Type 0 where
   pub tree : Tree nd n
-  pub bound : {k : ℕ} {x : Name} → k < n → nd k ≡ name_node x → (b : ℕ) × (first_named nd x (scope nd k) ≡ some b)
+  pub bound : {k : ℕ} {x : Name} → k < n → nd k ≡ name_node x → (b : ℕ) × (first_named nd x (scope nd k) ≡ Some b)

@@ -1,7 +1,6 @@
 -- What a tree gives to all floors above: the law of the walk at a child, and induction from the root and from the leaves.
-use Rattle.std.specs.Prelude.{ℕ, zero, suc, ◌+◌, ◌≤◌, ◌<◌, ◌≡◌, refl, Bool, true, false, cond}
+use Rattle.std.specs.Prelude.{ℕ, zero, suc, ◌+◌, ◌≤◌, ◌<◌, ◌≡◌, refl, Bool, true, false, cond, Option, None, Some}
 use Rattle.std.proofs.Common.{ap, arith, eqb-true}
-use Rattle.std.proofs.Math.Option.{Option, none, some}
 use Rattle.std.proofs.Math.Decide.{ℕ_discrete}
 use Rattle.std.proofs.lemmas.Bool.{eqb-false}
 use Rattle.table.specs.Node.{Node, Nodes, Field, field_a, field_b, field_c, child, Kid}
@@ -10,24 +9,24 @@ use Rattle.table.specs.Tree.{Tree}
 
 -- ---- The field that holds a child
 
-pub holds_true : (k : ℕ) (o : Option ℕ) → holds k o ≡ true → o ≡ some k
-holds_true k none h = absurd (let z : ◌≡◌ {A = ℕ} 0 1 = cc in omega arith)
-holds_true k (some c) h = ap some (eqb-true c k h)
+pub holds_true : (k : ℕ) (o : Option ℕ) → holds k o ≡ true → o ≡ Some k
+holds_true k None h = absurd (let z : ◌≡◌ {A = ℕ} 0 1 = cc in omega arith)
+holds_true k (Some c) h = ap Some (eqb-true c k h)
 
-pub holds_false : (k : ℕ) (o : Option ℕ) → holds k o ≡ false → o ≡ some k → ⊥
-holds_false k none h q = let z : ◌≡◌ {A = ℕ} 0 1 = cc in omega arith
-holds_false k (some c) h q = eqb-false c k h (cc)
+pub holds_false : (k : ℕ) (o : Option ℕ) → holds k o ≡ false → o ≡ Some k → ⊥
+holds_false k None h q = let z : ◌≡◌ {A = ℕ} 0 1 = cc in omega arith
+holds_false k (Some c) h q = eqb-false c k h (cc)
 
 -- What `field_holding` finds.
 data Held (k : ℕ) (node : Node) : Option Field → Type 0 where
-  held : {f : Field} → child node f ≡ some k → Held k node (some f)
-  nowhere : ((f : Field) → child node f ≡ some k → ⊥) → Held k node none
+  held : {f : Field} → child node f ≡ Some k → Held k node (Some f)
+  nowhere : ((f : Field) → child node f ≡ Some k → ⊥) → Held k node None
 
 held_is : (k : ℕ) (node : Node) → Held k node (field_holding k node)
 held_is k node = go (holds k (child node field_a)) (holds k (child node field_b)) (holds k (child node field_c)) refl refl refl
   where
     go : (a b c : Bool) → holds k (child node field_a) ≡ a → holds k (child node field_b) ≡ b → holds k (child node field_c) ≡ c →
-        Held k node (cond a (some field_a) (cond b (some field_b) (cond c (some field_c) none)))
+        Held k node (cond a (Some field_a) (cond b (Some field_b) (cond c (Some field_c) None)))
     go true b c p q r = held (holds_true k (child node field_a) p)
     go false true c p q r = held (holds_true k (child node field_b) q)
     go false false true p q r = held (holds_true k (child node field_c) r)
@@ -56,10 +55,10 @@ module _ {nd : Nodes} {n : ℕ} (t : Tree nd n) where
 
       at : (q : ℕ) → q < n → p ≤ q → (p < q → climb_from top step nd c q ≡ result) → (o : Option Field) → Held c (nd q) o →
           at_parent o (climb_from top step nd c q) (λ g. step q g (climb top step nd q)) ≡ result
-      at q h above rest (some g) (held e) =
+      at q h above rest (Some g) (held e) =
           let (same, same_field) = one_place h below (record { stands = e }) kid in
           cc
-      at q h above rest none (nowhere none_stands) =
+      at q h above rest None (nowhere none_stands) =
           let apart : ¬ (p ≡ q) = λ same. none_stands f (rw same at kid.stands) in
           rest (omega arith)
 

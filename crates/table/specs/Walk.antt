@@ -1,24 +1,23 @@
 -- The one walk from a node up to the root. A parent has a smaller number than its child, so the walk goes once through the numbers
 -- below the node: where p has the current node as a child, it takes a step there, and p becomes the current node.
-use Rattle.std.specs.Prelude.{ℕ, zero, suc, Bool, false, cond, eqb}
-use Rattle.std.proofs.Math.Option.{Option, none, some}
+use Rattle.std.specs.Prelude.{ℕ, zero, suc, Bool, false, cond, eqb, Option, None, Some}
 use Rattle.table.specs.Node.{Node, Nodes, Field, field_a, field_b, field_c, child}
 
 abbrev pub holds : ℕ → Option ℕ → Bool
-holds k none = false
-holds k (some c) = eqb c k
+holds k None = false
+holds k (Some c) = eqb c k
 
 -- The field of a node that holds k as a child.
 abbrev pub field_holding : ℕ → Node → Option Field
 field_holding k node =
-    cond (holds k (child node field_a)) (some field_a)
-    (cond (holds k (child node field_b)) (some field_b)
-    (cond (holds k (child node field_c)) (some field_c) none))
+    cond (holds k (child node field_a)) (Some field_a)
+    (cond (holds k (child node field_b)) (Some field_b)
+    (cond (holds k (child node field_c)) (Some field_c) None))
 
 module _ {A : Type 0} where
   abbrev pub at_parent : Option Field → A → (Field → A) → A
-  at_parent none off step = off
-  at_parent (some f) off step = step f
+  at_parent None off step = off
+  at_parent (Some f) off step = step f
 
   -- What a walk from node k carries: `top` at the root, `step p f up` at the child in field f of p, where the walk from p carries `up`.
   unfoldable pub climb_from : A → (ℕ → Field → A → A) → Nodes → ℕ → ℕ → A

@@ -7,24 +7,8 @@ mod nodes;
 pub use binders::{binder, walk_at};
 pub use nodes::{node_at, read};
 
-// Where a name is bound.
-#[derive(Clone, Copy)]
-pub enum Bound {
-    At(u32),
-    Nowhere,
-}
-
-// What the walk in search of a binder comes to at a node.
-#[derive(Clone, Copy)]
-pub enum Walked {
-    // The binder of the name.
-    Binder,
-    // It goes on in search of the parent of that node.
-    On(u32),
-}
-
 // The four words of a node.
-#[derive(Clone, Copy)]
+#[derive(Clone, Copy, Debug, PartialEq, Eq)]
 pub struct NodeWords {
     pub kind: u32,
     pub a: u32,

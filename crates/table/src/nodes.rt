@@ -22,7 +22,7 @@ pub fn node_at(words: &[u32], k: u32) -> NodeWords
 fn word_or_zero(words: &[u32], i: usize) -> u32
     ensures { result ≡ word_at words.now i }
 {
-    if i < words.len() { words[i] } else { 0 }
+    words.get(i).copied().unwrap_or(0)
 }
 
 // The words of node k of any table; a word past the end is 0.

@@ -3,89 +3,40 @@
 // 2,100 words, a lent slice above 33,000 words, or an end within a trial, end the program.
 #![tactic(auto)]
 
-mod check;
-mod input;
-mod lines;
-mod runs;
+mod calls;
 mod stores;
-mod types;
 
-ghost use Rattle.std.specs.Prelude.{◌≡◌, length};
-
+use calls::Call;
 use std::io::Read;
 
-// Makes a call and writes its line, or tells that it cannot be made. The three numbers are a run's fuel and the lengths of its bindings
-// and frames, or the lengths of inference's work and out.
-fn make_call<P: Print>(
-    to: &P,
-    words: &[u32],
-    call: u32,
-    first: u32,
-    second: u32,
-    third: u32,
-) -> bool {
-    match call {
-        0 => check::check(to, words),
-        1 => runs::run(to, words, first, second as usize, third as usize),
-        2 => types::infer(to, words, first as usize, second as usize),
-        _ => false,
-    }
+// Reads a trial's table into the slice that it fills.
+fn read_table<R: Read>(from: &mut R, words: &mut [u32]) -> Option<()> {
+    let mut bytes = [0u8; 8400];
+    let table = bytes.get_mut(..4 * words.len())?;
+    from.read_exact(table).ok()?;
+    lent::read_words(table, words);
+    Some(())
 }
 
-fn room() -> [u8; 8400]
-    ensures { 8400 ≡ length result }
-{
-    [0; 8400]
-}
-
-fn space() -> [u32; 2100]
-    ensures { 2100 ≡ length result }
-{
-    [0; 2100]
-}
-
-// Reads a trial's table and makes its call.
-fn with_table<R: Read, P: Print>(
-    from: &mut R,
-    to: &P,
-    call: u32,
-    first: u32,
-    second: u32,
-    third: u32,
-    count: u32,
-) -> bool {
-    let n = count as usize;
-    if 2100 < n {
-        return false;
-    }
-    let mut bytes = room();
-    let length = 4 * n;
-    if input::read_full(from, &mut bytes[..length]) < length {
-        return false;
-    }
-    let mut words = space();
-    lent::read_words(&bytes[..length], &mut words);
-    make_call(to, &words[..n], call, first, second, third)
-}
-
-// Reads and makes one trial, and tells whether to go on.
-fn one_trial<R: Read, P: Print>(from: &mut R, to: &P) -> bool {
+// Reads and makes one trial, or tells that none can be made.
+fn one_trial<R: Read, P: Print>(from: &mut R, to: &P) -> Option<()> {
     let mut head = [0u8; 20];
-    if input::read_full(from, &mut head) < 20 {
-        return false;
-    }
+    from.read_exact(&mut head).ok()?;
     let mut numbers = [0u32; 5];
     lent::read_words(&head, &mut numbers);
-    with_table(
-        from, to, numbers[0], numbers[1], numbers[2], numbers[3], numbers[4],
-    )
+    let [which, first, second, third, count] = numbers;
+    let mut words = [0u32; 2100];
+    let table = words.get_mut(..count as usize)?;
+    read_table(from, table)?;
+    Call::of(which, first, second, third)?.make(to, table)
 }
 
-// A proved loop has to end, and nothing says that the input does: it counts down from a number that no input uses up.
+// A proved loop has to end, and nothing says that the input does: it makes more turns than any input has trials.
 fn main(rt: HostRuntime) {
     let mut input = rt.stdin();
-    let mut turns = u64::MAX;
-    while turns > 0 && one_trial(&mut input, &rt) {
-        turns -= 1;
+    for _ in 0..u64::MAX {
+        if one_trial(&mut input, &rt).is_none() {
+            break;
+        }
     }
 }

@@ -5,12 +5,12 @@ use Rattle.host.proofs.infer_words.Goals as goal
 
 pub slice_bounds-infer_on-end-2 : goal.slice_bounds-infer_on-end-2
 slice_bounds-infer_on-end-2 c =
-    sym (room_lent c.args.out.now c.out_words-room.ensures)
+    sym (room_lent c.args.out.now c.min-room.ensures)
 
 pub infer_on-requires : goal.infer_on-requires
 infer_on-requires c =
-    out_room c.args.out.now c.out_words-room.ensures
+    out_room c.args.out.now c.min-room.ensures
 
 pub returns : goal.returns
 returns c =
-    infers_on c.args.out.now c.out_words-room.ensures c.infer_on.ensures
+    infers_on c.args.out.now c.min-room.ensures c.infer_on.ensures

@@ -5,18 +5,18 @@ use Rattle.host.proofs.tell.Goals as goal
 
 pub slice_bounds-write_bytes-end : goal.slice_bounds-write_bytes-end
 slice_bounds-write_bytes-end c =
-    let room = rw c.in-Typed.is at c.requires in
+    let room = rw c.in-Ok.is at c.requires in
     sym (length-take-le _ _ room.0)
 
 pub overflow_cast-count : goal.overflow_cast-count
 overflow_cast-count c =
-    let room = rw c.in-Typed.is at c.requires in
+    let room = rw c.in-Ok.is at c.requires in
     omega arith
 
-pub returns-in-Typed : goal.returns-in-Typed
-returns-in-Typed c =
-    let is = c.in-Typed.is in
+pub returns-in-Ok : goal.returns-in-Ok
+returns-in-Ok c =
+    let is = c.in-Ok.is in
     rw is (type_told c.args.types.now (rw is at c.requires) c.pack.ensures c.write_bytes.ensures)
 
-pub returns-in-Refused : goal.returns-in-Refused
-returns-in-Refused c = rw c.in-Refused.is (record { number = c.pack-in-Refused.ensures; out_is_after = refl })
+pub returns-in-Err : goal.returns-in-Err
+returns-in-Err c = rw c.in-Err.is (record { number = rw (c.code.ensures, c.place.ensures) at c.pack-in-Err.ensures; out_is_after = refl })

@@ -1,22 +1,16 @@
 -- `inference::types` meets its contract.
-use Rattle.cells.specs.Outcomes.{outcome_is, met_sound}
 use Rattle.inference.specs.TableLaws.{started_ready}
-use Rattle.inference.specs.Principality.{clash_found, tested_found}
+use Rattle.inference.specs.Principality.{clash_found, grounded_found, ungrounded_found}
 use Rattle.inference.proofs.types.Goals as goal
 
 pub nodes-requires : goal.nodes-requires
 nodes-requires c = started_ready c.requires c.start.ensures
 
-pub grounded-requires : goal.grounded-requires
-grounded-requires c =
-    met_sound c.nodes.ensures c.if-nodes.true
+pub returns-in_err-nodes : goal.returns-in_err-nodes
+returns-in_err-nodes c = clash_found c.requires c.start.ensures c.in_err-nodes.ensures c.from_residual.ensures.1
 
-pub returns-then-nodes : goal.returns-then-nodes
-returns-then-nodes c =
-    let room = c.requires in
-    tested_found room c.start.ensures (outcome_is c.nodes.ensures c.if-nodes.true) _ c.grounded.ensures
+pub returns-then-grounded : goal.returns-then-grounded
+returns-then-grounded c = grounded_found c.requires c.start.ensures c.in_ok-nodes.ensures c.if-grounded.ensures
 
-pub returns : goal.returns
-returns c =
-    let room = c.requires in
-    clash_found room c.start.ensures (outcome_is c.nodes.ensures c.if-nodes.false)
+pub returns-else-grounded : goal.returns-else-grounded
+returns-else-grounded c = ungrounded_found c.requires c.start.ensures c.in_ok-nodes.ensures c.if-grounded.ensures

@@ -2,8 +2,8 @@
 use Rattle.cells.specs.Solving.{Shortened}
 use Rattle.cells.proofs.solve.find.Given as goal
 
-abbrev pub invariant-loop-c : goal.invariant-loop-c
-invariant-loop-c l = Shortened l.initial.cells l.cells l.i l.at
+abbrev pub invariant-loop-next : goal.invariant-loop-next
+invariant-loop-next l = Shortened l.initial.cells l.cells l.i l.at
 
-abbrev pub decreases-loop-c : goal.decreases-loop-c
-decreases-loop-c l = l.at
+abbrev pub decreases-loop-next : goal.decreases-loop-next
+decreases-loop-next l = l.at

@@ -4,10 +4,10 @@ use Rattle.cells.specs.WritingLaws.{WritesOn}
 use Rattle.cells.proofs.write.+write.Given as goal
 
 abbrev pub decreases-write : goal.decreases-write
-decreases-write l = l.left
+decreases-write l = l.rest.left
 
-abbrev pub invariant-loop-left : goal.invariant-loop-left
-invariant-loop-left l = WritesOn l.fn.cells l.fn.i l.fn.out l.fn.left l.fn.numbered l.cells l.i l.out l.left l.numbered
+abbrev pub invariant-loop-rest : goal.invariant-loop-rest
+invariant-loop-rest l = WritesOn l.fn.cells l.fn.i l.fn.out l.fn.rest l.cells l.i l.out l.rest
 
-abbrev pub decreases-loop-left : goal.decreases-loop-left
-decreases-loop-left l = l.left
+abbrev pub decreases-loop-rest : goal.decreases-loop-rest
+decreases-loop-rest l = l.rest.left

@@ -5,8 +5,8 @@ use Rattle.cells.specs.Cells.{Ev}
 use Rattle.cells.specs.Layout.{store_of}
 use Rattle.cells.proofs.write.root.Given as goal
 
-abbrev pub invariant-loop-c : goal.invariant-loop-c
-invariant-loop-c l = (l.r ≤ l.i) × ((τ : Ty) → Ev (store_of l.cells) l.i τ → Ev (store_of l.cells) l.r τ)
+abbrev pub invariant-loop-next : goal.invariant-loop-next
+invariant-loop-next l = (l.r ≤ l.i) × ((τ : Ty) → Ev (store_of l.cells) l.i τ → Ev (store_of l.cells) l.r τ)
 
-abbrev pub decreases-loop-c : goal.decreases-loop-c
-decreases-loop-c l = l.r
+abbrev pub decreases-loop-next : goal.decreases-loop-next
+decreases-loop-next l = l.r

@@ -4,6 +4,6 @@ use Rattle.formula.proofs.lines.run_head.Goals as goal
 
 pub returns : goal.returns
 returns c =
-    let code = rw c.code.ensures at c.numbers-coded.ensures in
+    let code = rw c.code.ensures at c.numbers.ensures in
     let payload = rw c.payload.ensures at c.integer.ensures in
-    run_numbers c.args.answer c.bytes-named.ensures code c.bytes-start.ensures payload
+    run_numbers c.args.answer c.bytes.ensures code c.bytes-2.ensures payload

@@ -4,5 +4,5 @@ use Rattle.formula.proofs.lines.type_line.Goals as goal
 
 pub returns : goal.returns
 returns c =
-    let words = rw c.words_shown-count.ensures at c.numbers-next.ensures in
-    type_line_written c.args.inferred c.args.out.now c.requires.0 c.requires.1 c.type_head-start.ensures words c.bytes.ensures
+    let words = rw c.words_shown.ensures at c.numbers.ensures in
+    type_line_written c.args.inferred c.args.out.now c.requires.0 c.requires.1 c.type_head.ensures words c.bytes.ensures

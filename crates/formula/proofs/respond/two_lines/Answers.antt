@@ -3,5 +3,4 @@ use Rattle.formula.specs.ProgramLaws.{two_lines_fit}
 use Rattle.formula.proofs.respond.two_lines.Goals as goal
 
 pub returns : goal.returns
-returns c =
-    two_lines_fit c.requires c.type_line-next.ensures c.run_line.ensures
+returns c = two_lines_fit c.requires c.type_line.ensures c.run_line.ensures

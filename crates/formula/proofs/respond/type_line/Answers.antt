@@ -4,10 +4,7 @@ use Rattle.formula.specs.ProgramLaws.{type_fits}
 use Rattle.formula.proofs.respond.type_line.Goals as goal
 
 pub type_line-requires : goal.type_line-requires
-type_line-requires c =
-    omega (arith, type_fits c.infer-inferred.ensures)
+type_line-requires c = omega (arith, type_fits c.infer-inferred.ensures)
 
 pub returns : goal.returns
-returns c =
-    let infers = rw c.work-work.ensures at c.infer-inferred.ensures in
-    record { inferred = _; infers = infers; line = c.type_line.ensures }
+returns c = record { inferred = _; infers = c.infer-inferred.ensures; line = c.type_line.ensures }

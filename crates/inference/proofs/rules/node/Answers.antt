@@ -1,6 +1,6 @@
 -- `inference::rules::node` meets its contract: each arm demands the equations of its rule.
-use Rattle.std.proofs.Common.{◌≤◌, arith, rules}
-use Rattle.inference.specs.RuleLaws.{unknown_kind, base_solved, operator_solved, names_rule, application_solved, if_solved, lambda_solved, let_solved, rec_solved, unknown_solved}
+use Rattle.std.proofs.Common.{rules}
+use Rattle.inference.specs.RuleLaws.{other_kind, bool_solved, int_solved, operator_solved, names_rule, application_solved, if_solved, lambda_solved, let_solved, rec_solved, unit_or_unknown_solved}
 use Rattle.inference.specs.NodeCells.{application_ready, condition_ready, lambda_ready, let_ready, rec_ready}
 use Rattle.inference.proofs.rules.node.Goals as goal
 
@@ -49,11 +49,11 @@ pub returns-in-9 : goal.returns-in-9
 returns-in-9 c =
     rec_solved c.requires c.read-w.ensures c.in-9.is c.rec.ensures
 
-pub returns-in-0-to-2 : goal.returns-in-0-to-2
-returns-in-0-to-2 c =
-    base_solved c.requires c.read-w.ensures (omega arith) c.constant.ensures
+pub returns-in-1 : goal.returns-in-1
+returns-in-1 c = bool_solved c.requires c.read-w.ensures c.in-1.is c.constant.ensures
+
+pub returns-in-2 : goal.returns-in-2
+returns-in-2 c = int_solved c.requires c.read-w.ensures c.in-2.is c.constant-in-2.ensures
 
 pub returns-in_default : goal.returns-in_default
-returns-in_default c =
-    let kind : 10 ≤ c.read-w.result.kind = unknown_kind (omega arith) (search rules) in
-    unknown_solved c.requires c.read-w.ensures kind c.constant-in_default.ensures
+returns-in_default c = unit_or_unknown_solved c.requires c.read-w.ensures (other_kind (search rules)) c.constant-in_default.ensures

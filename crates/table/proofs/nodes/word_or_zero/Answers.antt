@@ -1,7 +1,0 @@
--- `table::nodes::word_or_zero` meets its contract: past the end stands 0.
-use Rattle.std.proofs.Common.{sym}
-use lib.ListN.{get_or-eq_default}
-use Rattle.table.proofs.nodes.word_or_zero.Goals as goal
-
-pub returns-else-i-words : goal.returns-else-i-words
-returns-else-i-words c = sym (get_or-eq_default c.args.words.now 0 c.if-i-words.false)
