@@ -1,4 +1,4 @@
-// The words of a node.
+// The words of a node. They are cut where they are read, and not by `as_chunks`: `read` answers for a part of a node too.
 ghost use Rattle.std.specs.Prelude.{◌+◌, ◌*◌, ◌≤◌, ◌≡◌, length};
 ghost use Rattle.table.specs.Node.{word_at};
 ghost use Rattle.table.specs.Asked.{words_at};
