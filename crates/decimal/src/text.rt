@@ -1,5 +1,5 @@
 // Numbers are written into a lent text.
-ghost use Rattle.std.specs.Prelude.{◌≡◌, ◌*◌, [], ◌∷◌, map, length};
+ghost use Rattle.std.specs.Prelude.{◌*◌, [], ◌∷◌, map, length};
 ghost use Rattle.std.specs.Int.{w32};
 ghost use Rattle.std.proofs.Common.{to_z};
 ghost use Rattle.decimal.specs.Puts.{Puts, PutsWithin};
