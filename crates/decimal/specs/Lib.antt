@@ -10,6 +10,7 @@ pub mod ScanIsWordsIn
 -- Printed numbers are read as those numbers.
 pub mod DecimalLaws
 -- The code of the scan.
+pub mod State
 pub mod ScanLaws
 -- The code of the text.
 pub mod TextLaws

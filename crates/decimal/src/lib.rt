@@ -4,7 +4,7 @@
 mod scan;
 mod text;
 
-pub use scan::{end, feed};
+pub use scan::Scan;
 pub use text::Text;
 
 // Where a scan stands. A failed scan is a state as the others, which the calls take too: no caller has to ask before it goes on.

@@ -1,5 +1,5 @@
 // Numbers are written into a lent text.
-ghost use Rattle.std.specs.Prelude.{◌≡◌, ◌*◌, [], ◌∷◌, map, length};
+ghost use Rattle.std.specs.Prelude.{◌*◌, [], ◌∷◌, map, length};
 ghost use Rattle.std.specs.Int.{w32};
 ghost use Rattle.std.proofs.Common.{to_z};
 ghost use Rattle.decimal.specs.Puts.{Puts, PutsWithin};
@@ -7,7 +7,7 @@ ghost use Rattle.decimal.specs.Decimal.{decimal, signed_decimal, spaced};
 
 use itoa::Buffer;
 
-// A lent text, and the place where writing goes on: as far as the text goes.
+// A lent text, and the place where writing goes on: as far as the text goes. A slice and a place, and no String: there is no heap.
 #[derive(Drop)]
 pub struct Text<'a> {
     pub lent: &'a mut [u8],

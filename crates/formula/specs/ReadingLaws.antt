@@ -9,7 +9,6 @@ use Rattle.decimal.specs.declared.Scanner.{Scanner}
 use Rattle.decimal.specs.declared.Scanner.TheVariants.{Failed, Between, Inside}
 use Rattle.formula.specs.Reading.{NoneEmpty, no_piece, one_more, input_scanned, given_up, after_reads, ReadingEnds, at_the_end, scan_failed, read_failed, turns_used_up}
 use Rattle.formula.specs.Turns.{after_read, reads_on, PieceRead, InputRead}
-use Rattle.formula.specs.declared.read.Turn.{Turn}
 
 pub take_within : (n : ℕ) (bytes : List ℕ) → take (min n (length bytes)) bytes ≡ take n bytes
 take_within n bytes = rw (← length-take n bytes) (take_the_length n bytes)
@@ -40,76 +39,72 @@ pieces_within (one_more {piece = piece} pieces) = rw length-append (omega (arith
 -- ---- A read
 
 -- So many reads were made: if the last gave some bytes, then all did.
-pub record ReadSoFar (made : ℕ) (words : List ℕ) (t : Turn) : Type 0 where
+pub record ReadSoFar (made : ℕ) (got : Option ℕ) (last : ScanState) : Type 0 where
   pub pieces : List (List ℕ)
   pub none_empty : NoneEmpty pieces
-  pub leads : stands t.at words ≡ after_reads t.got (flatten pieces)
-  pub counted : {n : ℕ} → t.got ≡ Some (suc n) → length pieces ≡ made
+  pub leads : last ≡ after_reads got (flatten pieces)
+  pub counted : {n : ℕ} → got ≡ Some (suc n) → length pieces ≡ made
 
-pub room_kept : {made : ℕ} {words words₀ : List ℕ} {t : Turn} → ReadSoFar made words t → words₀ ≡ replicate 2048 0 → length words ≡ length words₀
-room_kept {t = t} so_far zeros = ap (λ s. length (slice s)) so_far.leads ∙ go t.got (flatten so_far.pieces) ∙ sym (ap length zeros)
+pub room_kept : {made : ℕ} {got : Option ℕ} {last : ScanState} → ReadSoFar made got last → length (slice last) ≡ 2048
+room_kept {got = got} so_far = ap (λ s. length (slice s)) so_far.leads ∙ go got (flatten so_far.pieces)
   where
-    go : (got : Option ℕ) (input : List ℕ) → length (slice (after_reads got input)) ≡ length (replicate {A = ℕ} 2048 0)
+    go : (got : Option ℕ) (input : List ℕ) → length (slice (after_reads got input)) ≡ 2048
     go (Some n) input = scan_keeps_length (input_scanned []) input
     go None input = scan_keeps_length (input_scanned []) input
 
 module _ {start : ScanState} {pieces : List (List ℕ)} (none_empty : NoneEmpty pieces) (from : start ≡ input_scanned (flatten pieces)) where
-  pub read_more : {piece words : List ℕ} {t : Turn} → PieceRead start piece words t → ReadSoFar (length pieces + 1) words t
-  read_more {piece} {words} {t} read = go t.got refl read.moved read.leads
+  pub read_more : {piece : List ℕ} {got : Option ℕ} {last : ScanState} → PieceRead start piece got last → ReadSoFar (length pieces + 1) got last
+  read_more {piece} {got} {last} read = go got read.moved read.leads
     where
-      go : (got : Option ℕ) → t.got ≡ got → IfSome got (λ n. n ≤ length piece) → stands t.at words ≡ after_read start got piece → ReadSoFar (length pieces + 1) words t
-      go (Some zero) is moved leads = record { pieces = pieces; none_empty = none_empty; leads = rw is (leads ∙ from); counted = λ some. absurd (let z : ◌≡◌ {A = ℕ} 0 1 = cc in omega arith) }
-      go None is moved leads = record { pieces = pieces; none_empty = none_empty; leads = rw is (leads ∙ ap given_up from); counted = λ some. absurd (let z : ◌≡◌ {A = ℕ} 0 1 = cc in omega arith) }
-      go (Some (suc n)) is moved leads = record {
+      go : (got : Option ℕ) → IfSome got (λ n. n ≤ length piece) → last ≡ after_read start got piece → ReadSoFar (length pieces + 1) got last
+      go (Some zero) moved leads = record { pieces = pieces; none_empty = none_empty; leads = leads ∙ from; counted = λ some. absurd (let z : ◌≡◌ {A = ℕ} 0 1 = cc in omega arith) }
+      go None moved leads = record { pieces = pieces; none_empty = none_empty; leads = leads ∙ ap given_up from; counted = λ some. absurd (let z : ◌≡◌ {A = ℕ} 0 1 = cc in omega arith) }
+      go (Some (suc n)) moved leads = record {
         pieces = pieces ++ take (suc n) piece ∷ [];
         none_empty = none_empty_last (take (suc n) piece) none_empty (rw (length-take-le (suc n) piece moved) (omega arith));
-        leads = rw (is, flatten_last pieces (take (suc n) piece)) (leads ∙ rw from (sym (scan_in_pieces (replicate 2048 0) (flatten pieces) (take (suc n) piece))));
+        leads = rw (flatten_last pieces (take (suc n) piece)) (leads ∙ rw from (sym (scan_in_pieces (replicate 2048 0) (flatten pieces) (take (suc n) piece))));
         counted = λ some. rw length-append refl;
       }
 
-pub read_first : {words₀ piece words : List ℕ} {t : Turn} → words₀ ≡ replicate 2048 0 → PieceRead (stands (Between 0) words₀) piece words t → ReadSoFar 1 words t
+pub read_first : {start last : ScanState} {piece : List ℕ} {got : Option ℕ} → start ≡ input_scanned [] → PieceRead start piece got last → ReadSoFar 1 got last
 unfolding flatten
-read_first zeros read = read_more no_piece (ap (stands (Between 0)) zeros) read
+read_first begins read = read_more no_piece begins read
 
 -- Some bytes came.
-record GoesOn (t : Turn) : Type 0 where
+record GoesOn (got : Option ℕ) : Type 0 where
   more : ℕ
-  some : t.got ≡ Some (suc more)
+  some : got ≡ Some (suc more)
 
-goes_on : (t : Turn) → reads_on t.got t.at ≡ true → GoesOn t
-goes_on t on = go t.got refl on
-  where
-    go : (got : Option ℕ) → t.got ≡ got → reads_on got t.at ≡ true → GoesOn t
-    go (Some zero) is on = absurd (let z : ◌≡◌ {A = ℕ} 0 1 = cc in omega arith)
-    go (Some (suc n)) is on = record { more = n; some = is }
-    go None is on = absurd (let z : ◌≡◌ {A = ℕ} 0 1 = cc in omega arith)
+goes_on : (got : Option ℕ) (s : Scanner) → reads_on got s ≡ true → GoesOn got
+goes_on (Some zero) s on = absurd (let z : ◌≡◌ {A = ℕ} 0 1 = cc in omega arith)
+goes_on (Some (suc n)) s on = record { more = n; some = refl }
+goes_on None s on = absurd (let z : ◌≡◌ {A = ℕ} 0 1 = cc in omega arith)
 
-pub read_next : {made : ℕ} {piece words words' : List ℕ} {t t' : Turn} → ReadSoFar made words t → reads_on t.got t.at ≡ true →
-    PieceRead (stands t.at words) piece words' t' → ReadSoFar (made + 1) words' t'
-read_next {t = t} so_far on read =
-    let some = (goes_on t on).some in
-    rw (so_far.counted some) at (read_more so_far.none_empty (rw some at so_far.leads) read)
+module _ {made : ℕ} {got : Option ℕ} {s : Scanner} {words : List ℕ} (so_far : ReadSoFar made got (stands s words)) where
+  pub read_next : {piece : List ℕ} {got' : Option ℕ} {last : ScanState} → reads_on got s ≡ true → PieceRead (stands s words) piece got' last → ReadSoFar (made + 1) got' last
+  read_next on read =
+      let some = (goes_on got s on).some in
+      rw (so_far.counted some) at (read_more so_far.none_empty (rw some at so_far.leads) read)
 
--- ---- The last read
+  -- ---- The last read
 
-module _ {made : ℕ} {words : List ℕ} {t : Turn} (so_far : ReadSoFar made words t) where
-  because : ReadingEnds so_far.pieces t.got → InputRead words t
+  because : ReadingEnds so_far.pieces got → InputRead got (stands s words)
   because ends = record { reads = record { pieces = so_far.pieces; none_empty = so_far.none_empty; ends = ends }; leads = so_far.leads }
 
-  pub read_over : reads_on t.got t.at ≡ false → InputRead words t
-  read_over over = because (go t.got t.at refl over so_far.leads)
+  pub read_over : reads_on got s ≡ false → InputRead got (stands s words)
+  read_over over = because (go got s over so_far.leads)
     where
-      go : (got : Option ℕ) (s : Scanner) → t.got ≡ got → reads_on got s ≡ false → stands s words ≡ after_reads got (flatten so_far.pieces) → ReadingEnds so_far.pieces t.got
-      go (Some zero) s is over state = at_the_end is
-      go (Some (suc n)) Failed is over state = scan_failed (sym state)
-      go (Some (suc n)) (Between count) is over state = absurd (let z : ◌≡◌ {A = ℕ} 0 1 = cc in omega arith)
-      go (Some (suc n)) (Inside count value) is over state = absurd (let z : ◌≡◌ {A = ℕ} 0 1 = cc in omega arith)
-      go None s is over state = read_failed is
+      go : (got : Option ℕ) (s : Scanner) → reads_on got s ≡ false → stands s words ≡ after_reads got (flatten so_far.pieces) → ReadingEnds so_far.pieces got
+      go (Some zero) s over state = at_the_end refl
+      go (Some (suc n)) Failed over state = scan_failed (sym state)
+      go (Some (suc n)) (Between count) over state = absurd (let z : ◌≡◌ {A = ℕ} 0 1 = cc in omega arith)
+      go (Some (suc n)) (Inside count value) over state = absurd (let z : ◌≡◌ {A = ℕ} 0 1 = cc in omega arith)
+      go None s over state = read_failed refl
 
-  pub no_turn_left : made ≡ 18446744073709551616 → InputRead words t
-  no_turn_left all = because (go t.got refl)
+  pub no_turn_left : made ≡ 18446744073709551616 → InputRead got (stands s words)
+  no_turn_left all = because (go got refl)
     where
-      go : (got : Option ℕ) → t.got ≡ got → ReadingEnds so_far.pieces t.got
+      go : (last : Option ℕ) → got ≡ last → ReadingEnds so_far.pieces got
       go (Some zero) is = at_the_end is
       go (Some (suc n)) is = turns_used_up (so_far.counted is ∙ all)
       go None is = read_failed is

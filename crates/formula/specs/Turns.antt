@@ -1,10 +1,9 @@
 -- What becomes of the bytes of one read, whatever it answers, and of all reads one after the other.
 use Rattle.std.specs.Prelude.{ℕ, zero, suc, ◌≤◌, ◌≡◌, Bool, false, not, length, take, Option, Some, None, IfSome}
 use mathlib.Core.List.{List, foldl, flatten}
-use Rattle.decimal.specs.Scan.{ScanState, stands, scan_byte, has_failed}
+use Rattle.decimal.specs.Scan.{ScanState, scan_byte, has_failed}
 use Rattle.decimal.specs.declared.Scanner.{Scanner}
 use Rattle.formula.specs.Reading.{given_up, after_reads, Reads}
-use Rattle.formula.specs.declared.read.Turn.{Turn}
 
 -- Where a scan stands after a read: exactly the bytes that came are taken in.
 abbrev pub after_read : ScanState → Option ℕ → List ℕ → ScanState
@@ -18,11 +17,11 @@ reads_on (Some (suc n)) s = not (has_failed s)
 reads_on None s = false
 
 -- The answer is within the piece, and the scan took in what came.
-pub record PieceRead (start : ScanState) (piece words : List ℕ) (t : Turn) : Type 0 where
-  pub moved : IfSome t.got (λ n. n ≤ length piece)
-  pub leads : stands t.at words ≡ after_read start t.got piece
+pub record PieceRead (start : ScanState) (piece : List ℕ) (got : Option ℕ) (last : ScanState) : Type 0 where
+  pub moved : IfSome got (λ n. n ≤ length piece)
+  pub leads : last ≡ after_read start got piece
 
 -- The scan went through all that was read.
-pub record InputRead (words : List ℕ) (t : Turn) : Type 0 where
-  pub reads : Reads t.got
-  pub leads : stands t.at words ≡ after_reads t.got (flatten reads.pieces)
+pub record InputRead (got : Option ℕ) (last : ScanState) : Type 0 where
+  pub reads : Reads got
+  pub leads : last ≡ after_reads got (flatten reads.pieces)

@@ -13,9 +13,8 @@ use Rattle.formula.specs.Turns.{InputRead}
 use Rattle.formula.specs.ReadingLaws.{pieces_within}
 use Rattle.formula.specs.Responding.{Responds, AnswersInput}
 use Rattle.formula.specs.ProgramLaws.{input_words}
-use Rattle.formula.specs.declared.read.Turn.{Turn}
 
-pub read_and_answered : {words text : List ℕ} {t : Turn} {n : ℕ} → InputRead words t → Responds (stands t.at words) text n → AnswersInput t.got text n
+pub read_and_answered : {got : Option ℕ} {last : ScanState} {text : List ℕ} {n : ℕ} → InputRead got last → Responds last text n → AnswersInput got text n
 read_and_answered read responds = record { reads = read.reads; responds = rw read.leads at responds }
 
 -- That is printed for the whole input, though no more of it is read once its scan has failed.

@@ -8,7 +8,7 @@ mod respond;
 
 ghost use Rattle.formula.specs.Responding.{AnswersInput};
 
-use decimal::Text;
+use decimal::{Scan, Scanner, Text};
 
 // Prints a text, which answers an input whose last read answered that. Where it cannot be written, the one line `output` on standard error
 // says so: the program has nothing else to tell it by. That a write writes what it is lent is left to the system.
@@ -24,7 +24,11 @@ fn main(rt: HostRuntime) {
     let mut piece = [0u8; 4096];
     let mut words = [0u32; 2048];
     let mut lent = [0u8; 1024];
-    let turn = read::read_input(&mut rt.stdin(), &mut piece, &mut words);
-    let text = respond::respond(turn.at, &mut words, &mut lent);
-    print(&rt, turn.got, &text);
+    let mut scan = Scan {
+        words: &mut words,
+        at: Scanner::Between(0),
+    };
+    let got = read::read_input(&mut rt.stdin(), &mut piece, &mut scan);
+    let text = respond::respond(&mut scan, &mut lent);
+    print(&rt, got, &text);
 }

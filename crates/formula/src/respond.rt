@@ -1,11 +1,12 @@
 // The text that answers an input.
 ghost use Rattle.std.specs.Prelude.{◌≡◌, length};
-ghost use Rattle.decimal.specs.Scan.{stands, words_at};
+ghost use Rattle.decimal.specs.Scan.{words_at};
+ghost use Rattle.decimal.specs.State.{state};
 ghost use Rattle.formula.specs.Responding.{Responds};
 ghost use Rattle.formula.specs.ProgramLaws.{Blank, TypeLineIn, RunLineIn, TwoLinesIn, LinesFor};
 
 use crate::lines;
-use decimal::{Scanner, Text};
+use decimal::{Scan, Scanner, Text};
 
 // The line of a table's inference.
 fn type_line(words: &[u32], text: &mut Text)
@@ -37,26 +38,26 @@ fn two_lines(words: &[u32], text: &mut Text)
 }
 
 // The lines for an input at whose end the scan stands there: those of its table, or the one line `input` if it has no words.
-fn lines_for(last: Scanner, words: &[u32], text: &mut Text)
+fn lines_for(scan: &Scan, text: &mut Text)
     requires { Blank text.old }
-    ensures { LinesFor (words_at (stands last words.now)) text.new }
+    ensures { LinesFor (words_at (state scan.now)) text.new }
 {
-    match last {
+    match scan.at {
         Scanner::Failed => text.bytes(b"input\n"),
         Scanner::Between(count) | Scanner::Inside { count, .. } => two_lines(
-            &words[..count.min(words.len())],
+            &scan.words[..count.min(scan.words.len())],
             text,
         ),
     }
 }
 
 // The text for an input whose scan stands there.
-pub(crate) fn respond<'a>(s: Scanner, words: &mut [u32], lent: &'a mut [u8]) -> Text<'a>
+pub(crate) fn respond<'a>(scan: &mut Scan, lent: &'a mut [u8]) -> Text<'a>
     requires { length lent.old ≡ 1024 }
-    ensures { Responds (stands s words.old) result.lent.now result.at }
+    ensures { Responds (state scan.old) result.lent.now result.at }
 {
-    let last = decimal::end(s, words);
+    scan.end();
     let mut text = Text { lent, at: 0 };
-    lines_for(last, words, &mut text);
+    lines_for(scan, &mut text);
     text
 }

@@ -3,11 +3,11 @@ use Rattle.formula.specs.ReadingLaws.{read_first, read_next, read_over, no_turn_
 use Rattle.formula.proofs.read.read_input.Goals as goal
 
 pub loop-init : goal.loop-init
-loop-init g c = read_first c.requires.1 c.read_piece-turn.ensures
+loop-init g c = read_first c.requires.1 c.read_piece-got.ensures
 
 pub loop-preserved : goal.loop-preserved
 loop-preserved g c =
-    read_next c.loop.invariant (sym c.reads_on.ensures ∙ c.if-not-reads_on.false) c.read_piece-turn-in-loop.ensures
+    read_next c.loop.invariant (sym c.reads_on.ensures ∙ c.if-not-reads_on.false) c.read_piece-got-in-loop.ensures
 
 pub returns-then-not-reads_on : goal.returns-then-not-reads_on
 returns-then-not-reads_on g c = read_over c.loop.invariant (sym c.reads_on.ensures ∙ c.if-not-reads_on.true)

@@ -8,5 +8,5 @@ returns-in-Failed c = rw c.in-Failed.is (input_line_fits c.requires c.bytes.ensu
 
 pub returns-in-Between : goal.returns-in-Between
 returns-in-Between c =
-    let lines = table_lines_fit c.args.words.now _ c.min.ensures c.two_lines.ensures in
+    let lines = table_lines_fit c.args.scan.now.words.now _ c.min.ensures c.two_lines.ensures in
     elim c.in-Between.is [ inl between ↦ rw between lines | inr inside ↦ rw inside.1 lines ]
