@@ -1,4 +1,4 @@
-// Type cells in a slice of words, five for each: what the cell says of its type, and a pair beside it.
+// Type cells in a slice of words, five for each: what the cell says of its type, and a pair beside it. Links and not boxes: there is no heap.
 ghost use Rattle.std.specs.Prelude.{◌<◌, ◌≡◌};
 ghost use Rattle.cells.specs.Layout.{words_at, cell_in, as_words, cell_at, pair_at, cells_in};
 ghost use Rattle.cells.specs.Puts.{CellPut, PairPut};
@@ -51,6 +51,7 @@ pub(crate) struct Pair {
     pub right: u32,
 }
 
+// Its own, and not that of the machine's stores: there a cell is the first five of eight words.
 pub(crate) fn get_words(cells: &[u32], i: u32) -> Words
     requires { i < cells_in cells.now }
     ensures { result ≡ words_at cells.now i }

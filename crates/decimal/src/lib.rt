@@ -8,7 +8,7 @@ pub use scan::Scan;
 pub use text::Text;
 
 // Where a scan stands. A failed scan is a state as the others, which the calls take too: no caller has to ask before it goes on.
-#[derive(Clone, Copy)]
+#[derive(Clone, Copy, Debug, PartialEq, Eq)]
 pub enum Scanner {
     // A token was no number, or a word was one too many.
     Failed,
