@@ -28,37 +28,46 @@ fn check<P: Print>(to: &P, words: &[u32]) {
     let _ = println!(to; "{code} {place}");
 }
 
+// Makes a call that is lent two slices of these lengths and writes the beginning of its line, and writes the sums of both afterwards.
+fn with_slices<P: Print, F: FnOnce(&mut [u32], &mut [u32])>(
+    to: &P,
+    first: usize,
+    second: usize,
+    call: F,
+) -> Option<()>
+    requires { F.IsAlwaysCallable call }
+{
+    let mut first_room = [0u32; MOST];
+    let mut second_room = [0u32; MOST];
+    let first = first_room.get_mut(..first)?;
+    let second = second_room.get_mut(..second)?;
+    fill(first, 1);
+    fill(second, 2);
+    call(first, second);
+    let (first, second) = (sum(first), sum(second));
+    let _ = println!(to; " {first} {second}");
+    Some(())
+}
+
 // Code, payload, steps, bindings, and the sums of both stores afterwards.
 fn run<P: Print>(to: &P, words: &[u32], fuel: u32, bindings: usize, frames: usize) -> Option<()> {
-    let mut bindings_room = [0u32; MOST];
-    let mut frames_room = [0u32; MOST];
-    let bindings = bindings_room.get_mut(..bindings)?;
-    let frames = frames_room.get_mut(..frames)?;
-    fill(bindings, 1);
-    fill(frames, 2);
-    let ran = machine::run(words, fuel, bindings, frames);
-    let (code, payload) = (ran.answer.code(), ran.answer.payload());
-    let (steps, made) = (ran.steps, ran.bindings);
-    let (bindings, frames) = (sum(bindings), sum(frames));
-    let _ = println!(to; "{code} {payload} {steps} {made} {bindings} {frames}");
-    Some(())
+    with_slices(to, bindings, frames, |bindings, frames| {
+        let ran = machine::run(words, fuel, bindings, frames);
+        let (code, payload) = (ran.answer.code(), ran.answer.payload());
+        let (steps, made) = (ran.steps, ran.bindings);
+        let _ = print!(to; "{code} {payload} {steps} {made}");
+    })
 }
 
 // Code and place, and the sums of work and out afterwards.
 fn infer<P: Print>(to: &P, words: &[u32], work: usize, out: usize) -> Option<()> {
-    let mut work_room = [0u32; MOST];
-    let mut out_room = [0u32; MOST];
-    let work = work_room.get_mut(..work)?;
-    let out = out_room.get_mut(..out)?;
-    fill(work, 1);
-    fill(out, 2);
-    let (code, place) = match inference::infer(words, work, out) {
-        Ok(count) => (0, count as u64),
-        Err(untyped) => (untyped.code(), u64::from(untyped.place())),
-    };
-    let (work, out) = (sum(work), sum(out));
-    let _ = println!(to; "{code} {place} {work} {out}");
-    Some(())
+    with_slices(to, work, out, |work, out| {
+        let (code, place) = match inference::infer(words, work, out) {
+            Ok(count) => (0, count as u64),
+            Err(untyped) => (untyped.code(), u64::from(untyped.place())),
+        };
+        let _ = print!(to; "{code} {place}");
+    })
 }
 
 impl Call {
