@@ -55,6 +55,7 @@ fn count(words: &[u32]) -> Result<u32, Refusal>
 {
     let l = words.len();
     match l {
+        // `as`: it fits, which is proved, and the library has no `From` here.
         1..=2048 if l % 4 == 0 => Ok((l / 4) as u32),
         _ => Err(Refusal::WrongCount),
     }

@@ -19,6 +19,7 @@ impl Nodes<'_> {
             }
             let mut current = k;
             // Tried as `for p in (0..k).rev()`, at word 4 * p: a check of 512 nodes takes 19 % more instructions, and 3 % are allowed.
+            // `as`: the library has no `From` from `u32` to `usize`.
             let mut i = 4 * (k as usize);
             while 0 < i {
                 i -= 4;

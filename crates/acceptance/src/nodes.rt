@@ -8,6 +8,7 @@ ghost use Rattle.acceptance.specs.Stages.{check_tree};
 use crate::Refusal;
 use table::NodeWords;
 
+// The count is a `u32`, as loops and refusals use it; read off the length it would be a conversion in each method.
 #[derive(Clone, Copy)]
 pub(crate) struct Nodes<'a> {
     pub(crate) words: &'a [u32],

@@ -90,6 +90,7 @@ impl Nodes<'_> {
         requires field { f < 3 }
         ensures { result ≡ misfits self.now.words.now self.now.count k f }
     {
+        // `as`: the library has no `From` from `u32` to `usize`.
         let i = 4 * (k as usize);
         let rule = Rule {
             n: self.count,

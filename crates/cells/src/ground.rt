@@ -7,6 +7,7 @@ ghost use Rattle.cells.specs.Grounding.{unmarked, UnmarkedBelow, Unmarked, Marki
 use crate::TypeCell;
 use crate::memory::{Pair, get, get_pair, put_pair};
 
+// n beside the cells, here and below: `grounded` counts them once.
 pub(crate) fn unmark(cells: &mut [u32], n: u32)
     requires { Sound cells.old × (length cells.old ≡ 5 * n) }
     ensures { UnmarkedBelow cells.old cells.new n }

@@ -67,6 +67,7 @@ pub fn grounded(cells: &mut [u32]) -> bool
     requires { Sound cells.old }
     ensures { GroundTested cells.old cells.new result }
 {
+    // `as`: it fits, which is proved, and the library has no `From` here.
     let n = (cells.len() / 5) as u32;
     unmark(cells, n);
     sweep(cells, n)

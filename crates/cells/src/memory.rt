@@ -56,6 +56,7 @@ pub(crate) fn get_words(cells: &[u32], i: u32) -> Words
     requires { i < cells_in cells.now }
     ensures { result ≡ words_at cells.now i }
 {
+    // `as`, here and below: the library has no `From` from `u32` to `usize`.
     let at = 5 * (i as usize);
     Words {
         tag: cells[at],

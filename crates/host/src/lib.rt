@@ -46,6 +46,7 @@ fn tell(inferred: Result<usize, Untyped>, types: &[u32], out: &mut [u8]) -> u64
     match inferred {
         Ok(count) => {
             lent::write_bytes(&types[..count], out);
+            // `as`: it fits, which is proved, and the library has no `From` here.
             pack(0, count as u32)
         }
         Err(untyped) => pack(untyped.code(), untyped.place()),

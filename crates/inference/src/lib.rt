@@ -70,6 +70,8 @@ impl From<Clash> for Untyped {
     }
 }
 
+// n beside the words, here and below: the check has counted them.
+
 // Gives the cells of a tree of n nodes their most general types, if there are any. Cell 4 is the root's.
 fn types(words: &[u32], n: u32, cells: &mut [u32]) -> Result<(), Untyped>
     requires { TreeRoom words.now n cells.old }
@@ -99,6 +101,7 @@ fn with_work(words: &[u32], n: u32, work: &mut [u32], out: &mut [u32]) -> Result
     ensures answered { FormulaInfers (exp_at (node_at words.now) n 0) out.old result out.new }
     ensures zeroed { work.new ≡ zeros (work_for n) }
 {
+    // `as`, here and below: the library has no `From` from `u32` to `usize`.
     let cells = 5 * (2 * (n as usize) + 4);
     let inferred = principal(words, n, &mut work[..cells], out);
     lent::clear(work);

@@ -151,6 +151,7 @@ pub fn walk_at(words: &[u32], i: usize, x: u32, current: u32) -> Option<u32>
     }
     match step.meet() {
         Met::Binding => None,
+        // `as`, here and below: it fits, which is proved, and the library has no `From` here.
         Met::Above => Some((i / 4) as u32),
         Met::Elsewhere => Some(current),
     }

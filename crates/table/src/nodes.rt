@@ -10,6 +10,7 @@ pub fn node_at(words: &[u32], k: u32) -> NodeWords
     requires { 4 * k + 4 ≤ length words.now }
     ensures { result ≡ words_at words.now k }
 {
+    // `as`, here and below: the library has no `From` from `u32` to `usize`.
     let i = 4 * (k as usize);
     NodeWords {
         kind: words[i],

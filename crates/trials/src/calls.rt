@@ -63,6 +63,7 @@ fn run<P: Print>(to: &P, words: &[u32], fuel: u32, bindings: usize, frames: usiz
 fn infer<P: Print>(to: &P, words: &[u32], work: usize, out: usize) -> Option<()> {
     with_slices(to, work, out, |work, out| {
         let (code, place) = match inference::infer(words, work, out) {
+            // `as`, here and below: the library has no `From` between `usize` and the others.
             Ok(count) => (0, count as u64),
             Err(untyped) => (untyped.code(), u64::from(untyped.place())),
         };

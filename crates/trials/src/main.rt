@@ -26,6 +26,7 @@ fn one_trial<R: Read, P: Print>(from: &mut R, to: &P) -> Option<()> {
     lent::read_words(&head, &mut numbers);
     let [which, first, second, third, count] = numbers;
     let mut words = [0u32; 2100];
+    // `as`: the library has no `From` from `u32` to `usize`.
     let table = words.get_mut(..count as usize)?;
     read_table(from, table)?;
     Call::of(which, first, second, third)?.make(to, table)
