@@ -73,6 +73,16 @@ module _ {bad : ℕ → Bool} where
 
 -- ---- The refusals in their order
 
+-- The answer is a refusal with that code and that place.
+record Refuses (answer : Result ℕ Refusal) (code place : ℕ) : Type 0 where
+  refusal : Refusal
+  is : answer ≡ Err refusal
+  code_is : refusal_code refusal ≡ code
+  place_is : refusal_place refusal ≡ place
+
+refuses : {refusal : Refusal} → Refuses (Err refusal) (refusal_code refusal) (refusal_place refusal)
+refuses {refusal} = record { refusal = refusal; is = refl; code_is = refl; place_is = refl }
+
 module _ (words : List ℕ) where
   abbrev misfit : Option ℕ
   misfit = first_from (breaks_rule words) (count_of words) 0
@@ -85,6 +95,9 @@ module _ (words : List ℕ) where
 
   abbrev answer_by : Bool → Option ℕ → Option ℕ → Option ℕ → Result ℕ Refusal
   answer_by wrong f₂ f₃ f₄ = refuse_at (λ place. WrongCount) (cond wrong (Some 0) None) (refuse_at Misfit f₂ (refuse_at Misplaced f₃ (refuse_at Unbound f₄ (Ok (count_of words)))))
+
+  at_place : {code place c p : ℕ} → c ≡ code → p ≡ place → RefusedFor words c p → RefusedFor words code place
+  at_place p q r = rw (← p, ← q) r
 
   at_refusal : {refusal refusal' : Refusal} → ◌≡◌ {A = Result ℕ Refusal} (Err refusal) (Err refusal') → RefusedFor words (refusal_code refusal) (refusal_place refusal) →
       RefusedFor words (refusal_code refusal') (refusal_place refusal')
@@ -102,17 +115,17 @@ module _ (words : List ℕ) where
       go false None None (Some k) w e₂ e₃ e₄ a = at_refusal a (for_a_name w (to_none e₂) (to_none e₃) (to_smallest e₄))
       go false None None None w e₂ e₃ e₄ a = absurd (let z : ◌≡◌ {A = ℕ} 0 1 = cc in omega arith)
 
+  refused_so : {code place : ℕ} → RefusedFor words code place → Refuses (check_of words) code place
+  unfolding check_of
+  refused_so (for_its_count w) = rw w refuses
+  refused_so (for_a_rule w s) = rw (w, from_smallest s) refuses
+  refused_so (for_a_parent w f s) = rw (w, from_none f, from_smallest s) refuses
+  refused_so (for_a_name w f g s) = rw (w, from_none f, from_none g, from_smallest s) refuses
+
   -- ---- As numbers
 
   abbrev Numbers : Result ℕ Refusal → ℕ → ℕ → Type 0
   Numbers answer code place = (check_code answer ≡ code) × (check_place answer ≡ place)
-
-  refused_so : {code place : ℕ} → RefusedFor words code place → Numbers (check_of words) code place
-  unfolding check_of
-  refused_so (for_its_count w) = rw w (refl, refl)
-  refused_so (for_a_rule w s) = rw (w, from_smallest s) (refl, refl)
-  refused_so (for_a_parent w f s) = rw (w, from_none f, from_smallest s) (refl, refl)
-  refused_so (for_a_name w f g s) = rw (w, from_none f, from_none g, from_smallest s) (refl, refl)
 
   no_refusal_is_0 : {place : ℕ} → ¬ RefusedFor words 0 place
   no_refusal_is_0 r = elim r [ ]
@@ -122,11 +135,11 @@ module _ (words : List ℕ) where
     where
       go : (answer : Result ℕ Refusal) → check_of words ≡ answer → Numbers answer 0 n → Checked words n
       go (Ok m) is (zero_code, same) = accepted_is_checked words n (is ∙ ap Ok same)
-      go (Err refusal) is (zero_code, same) = absurd (no_refusal_is_0 (rw zero_code at (refused_for is)))
+      go (Err refusal) is (zero_code, same) = absurd (no_refusal_is_0 (at_place zero_code refl (refused_for is)))
 
   pub codes_1_to_4_exactly : (code place : ℕ) → 0 < code → Numbers (check_of words) code place ↔ RefusedFor words code place
-  codes_1_to_4_exactly code place some_code = (go (check_of words) refl, refused_so)
+  codes_1_to_4_exactly code place some_code = (go (check_of words) refl, λ r. let refused = refused_so r in rw refused.is (refused.code_is, refused.place_is))
     where
       go : (answer : Result ℕ Refusal) → check_of words ≡ answer → Numbers answer code place → RefusedFor words code place
       go (Ok m) is (c, p) = absurd (omega arith)
-      go (Err refusal) is (c, p) = rw (← c, ← p) (refused_for is)
+      go (Err refusal) is (c, p) = at_place c p (refused_for is)

@@ -8,11 +8,11 @@ use Rattle.language.specs.Once.{once}
 use Rattle.acceptance.specs.Refusals.{times_in}
 use Rattle.acceptance.specs.Counting.{children_in}
 
-leaf_holds_nothing : {node : Node} → Leaf node → (k : ℕ) → times_in node k ≡ 0
+pub leaf_holds_nothing : {node : Node} → Leaf node → (k : ℕ) → times_in node k ≡ 0
 leaf_holds_nothing a_constant k = refl
 leaf_holds_nothing a_name k = refl
 
-leaf_has_no_child : {node : Node} → Leaf node → children_in node ≡ 0
+pub leaf_has_no_child : {node : Node} → Leaf node → children_in node ≡ 0
 leaf_has_no_child a_constant = refl
 leaf_has_no_child a_name = refl
 

@@ -7,7 +7,7 @@ use Rattle.std.proofs.Math.Bool.{true, false}
 use mathlib.Core.List.{List, [], ◌∷◌}
 use native.Mathlib.Omega.{arith}
 use Rattle.language.specs.Expression.{Name}
-use Rattle.table.specs.Node.{Node, Nodes, Field, node_at}
+use Rattle.table.specs.Node.{Nodes, Field, node_at}
 use Rattle.table.specs.Walk.{field_holding, climb_from, at_parent}
 use Rattle.table.specs.Scope.{binds_in, enter, is_named, first_named}
 use Rattle.table.specs.Reading.{node_from, met_as, met_in, met, walked_as, walked, found_below}
@@ -61,44 +61,50 @@ module _ (nd : Nodes) (x : Name) where
 
 -- ---- The loop of the walk
 
--- The walk from node k has passed the nodes from p on and is in search of the parent of `current`: what is left to find is the whole answer.
-pub record Walking (words : List ℕ) (x : Name) (k current p : ℕ) : Type 0 where
-  pub same : found_below (node_at words) x current p ≡ found_below (node_at words) x k k
+-- The loop goes by the numbers of words, four for each node: before word i, what is left to find is the whole answer.
+pub record Walking (words : List ℕ) (x : Name) (k current i : ℕ) : Type 0 where
+  pub within : i ≤ 4 * k
+  pub whole : i ≡ 4 * (i / 4)
+  pub same : found_below (node_at words) x current (i / 4) ≡ found_below (node_at words) x k k
 
 module _ {words : List ℕ} {x : Name} {k : ℕ} where
-  pub walk_starts : Walking words x k k k
-  walk_starts = record { same = refl }
+  pub walk_starts : Walking words x k k (4 * k)
+  walk_starts = record { within = omega arith; whole = omega arith; same = ap (found_below (node_at words) x k) (omega arith) }
 
-  module _ {current p : ℕ} (w : Walking words x k current p) where
-    pub walk_ends : p ≤ 0 → found_below (node_at words) x k k ≡ None
+  module _ {current i : ℕ} (w : Walking words x k current i) where
+    pub walk_ends : i ≤ 0 → found_below (node_at words) x k k ≡ None
     walk_ends h =
-        let none_left : p ≡ 0 = omega arith in
+        let none_left : i / 4 ≡ 0 = omega arith in
         sym w.same ∙ ap (found_below (node_at words) x current) none_left ∙ found_nothing (node_at words) x current
 
-    -- One node further down, which stands at word 4 * (p - 1).
-    module _ (left : 0 < p) where
-      abbrev below : Node
-      below = node_from words (4 * (p - 1))
-
-      down : (m : Met) → met below x current ≡ m → onwards (node_at words) x m current (p - 1) ≡ found_below (node_at words) x k k
+    -- One node further down.
+    module _ (left : 0 < i) where
+      as_node : node_from words (i - 4) ≡ node_at words (i / 4 - 1)
       unfolding node_at
-      down m e = sym (found_down (node_at words) x current p left m e) ∙ w.same
+      as_node =
+          let is : i - 4 ≡ 4 * (i / 4 - 1) = omega (arith, w.whole) in
+          ap (node_from words) is
 
-      by_word : walked below x current (4 * (p - 1) / 4) ≡ walked below x current (p - 1)
-      by_word = let is : 4 * (p - 1) / 4 ≡ p - 1 = omega arith in rw is
+      down : (m : Met) → met (node_from words (i - 4)) x current ≡ m → onwards (node_at words) x m current ((i - 4) / 4) ≡ found_below (node_at words) x k k
+      down m e =
+          let next : (i - 4) / 4 ≡ i / 4 - 1 = omega arith in
+          let some_left : 0 < i / 4 = omega (arith, w.whole) in
+          rw next (sym (found_down (node_at words) x current (i / 4) some_left m (rw as_node at e)) ∙ w.same)
 
-      pub walk_goes_on : {r : Option ℕ} {next : ℕ} → r ≡ walked below x current (4 * (p - 1) / 4) → r ≡ Some next → Walking words x k next (p - 1)
-      walk_goes_on {next = next} is e = record { same = go (met below x current) refl (sym (is ∙ by_word) ∙ e) }
+      pub walk_goes_on : {r : Option ℕ} {next : ℕ} → r ≡ walked (node_from words (i - 4)) x current ((i - 4) / 4) → r ≡ Some next → Walking words x k next (i - 4)
+      walk_goes_on {r} {next} is e =
+          record { within = omega (arith, w.within); whole = omega (arith, w.whole); same = go (met (node_from words (i - 4)) x current) refl (sym is ∙ e) }
         where
-          go : (m : Met) → met below x current ≡ m → walked_as m current (p - 1) ≡ Some next → found_below (node_at words) x next (p - 1) ≡ found_below (node_at words) x k k
+          go : (m : Met) → met (node_from words (i - 4)) x current ≡ m → walked_as m current ((i - 4) / 4) ≡ Some next →
+              found_below (node_at words) x next ((i - 4) / 4) ≡ found_below (node_at words) x k k
           go Elsewhere is e = let same : next ≡ current = cc in rw same (down Elsewhere is)
-          go Above is e = let same : next ≡ p - 1 = cc in rw same (down Above is)
+          go Above is e = let same : next ≡ (i - 4) / 4 = cc in ap (λ j. found_below (node_at words) x j ((i - 4) / 4)) same ∙ down Above is
           go Binding is e = absurd (let z : ◌≡◌ {A = ℕ} 0 1 = cc in omega arith)
 
-      pub walk_finds : {r : Option ℕ} → r ≡ walked below x current (4 * (p - 1) / 4) → r ≡ None → found_below (node_at words) x k k ≡ Some (p - 1)
-      walk_finds is e = go (met below x current) refl (sym (is ∙ by_word) ∙ e)
+      pub walk_finds : {r : Option ℕ} → r ≡ walked (node_from words (i - 4)) x current ((i - 4) / 4) → r ≡ None → found_below (node_at words) x k k ≡ Some ((i - 4) / 4)
+      walk_finds is e = go (met (node_from words (i - 4)) x current) refl (sym is ∙ e)
         where
-          go : (m : Met) → met below x current ≡ m → walked_as m current (p - 1) ≡ None → found_below (node_at words) x k k ≡ Some (p - 1)
+          go : (m : Met) → met (node_from words (i - 4)) x current ≡ m → walked_as m current ((i - 4) / 4) ≡ None → found_below (node_at words) x k k ≡ Some ((i - 4) / 4)
           go Elsewhere is e = absurd (let z : ◌≡◌ {A = ℕ} 0 1 = cc in omega arith)
           go Above is e = absurd (let z : ◌≡◌ {A = ℕ} 0 1 = cc in omega arith)
           go Binding is e = sym (down Binding is)
