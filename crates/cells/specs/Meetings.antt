@@ -10,7 +10,7 @@ use Rattle.cells.specs.Layout.{MaySay, cell_in, as_words, cell_at, pair_at, stor
 use Rattle.cells.specs.Solving.{IsRoot, Rooted, is_link_in, links_in, Alike, PartsOf, PartsEqual, TwoRoots, Joined, MetIs, Meeting}
 use Rattle.cells.specs.Cells.{Sat}
 use Rattle.cells.specs.CellSteps.{free_written, equal_linked, copied_down, arrow_linked, tag, clash, Put}
-use Rattle.cells.specs.StoreLaws.{says, may_say, words_allowed, cell_there, cell_beside, store_put, sound_put, tag_of, above_one, parts_inside}
+use Rattle.cells.specs.StoreLaws.{says, may_say, words_allowed, cell_there, cell_beside, store_put, sound_put, tag_of, says_tag, above_one, parts_inside}
 use Rattle.cells.specs.Puts.{CellPut}
 use Rattle.cells.specs.declared.TypeCell.{TypeCell}
 use Rattle.cells.specs.declared.TypeCell.TheVariants.{Free, Link, UnitType, BoolType, IntType, Arrow}
@@ -144,8 +144,8 @@ module _ {before : List ℕ} {i j : ℕ} {low high : Words} (two : TwoRoots befo
 
   pub clash_meeting : {e : Clash} → low.tag ≢ 0 → high.tag ≢ 0 → low.tag ≢ high.tag → Meeting before before i j (Err e)
   clash_meeting n m d =
-      let low_says : tag (store_of before i) ≡ low.tag = ap tag (says before i low_at refl) ∙ tag_of low low_known in
-      let high_says : tag (store_of before j) ≡ high.tag = ap tag (says before j high_at refl) ∙ tag_of high high_known in
+      let low_says : tag (store_of before i) ≡ low.tag = rw two.low_is (says_tag two.sound i) in
+      let high_says : tag (store_of before j) ≡ high.tag = rw two.high_is (says_tag two.sound j) in
       record {
         same_length = refl;
         says = λ ρ. clash (rw low_says (low_built n)) (rw high_says (high_built m)) (λ e. d (sym low_says ∙ e ∙ high_says));

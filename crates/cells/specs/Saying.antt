@@ -8,7 +8,7 @@ use Rattle.cells.specs.Layout.{words_at, cell_in, as_words, cell_at, pair_at, st
 use Rattle.cells.specs.Interface.{Sayable, Outcome}
 use Rattle.cells.specs.Cells.{Fits, Sat}
 use Rattle.cells.specs.CellSteps.{Put, fits_at, fits_equal, free_written, tag, clash_said}
-use Rattle.cells.specs.StoreLaws.{says, tag_of, cell_back, words_allowed, store_put, sayable_anywhere, sound_put, store_beside, sound_beside, above_one, parts_inside}
+use Rattle.cells.specs.StoreLaws.{says, tag_of, says_tag, cell_back, words_allowed, store_put, sayable_anywhere, sound_put, store_beside, sound_beside, above_one, parts_inside}
 use Rattle.cells.specs.Puts.{CellPut, PairPut}
 use Rattle.cells.specs.declared.Clash.{Clash}
 use Rattle.cells.specs.declared.TypeCell.{TypeCell}
@@ -67,7 +67,7 @@ module _ {mem : List ℕ} {r : ℕ} {c : TypeCell} {x w : Words} (ready : SayRea
 
   pub said_otherwise : {e : Clash} → x.tag ≢ 0 → x.tag ≢ w.tag → Outcome mem mem (λ ρ. Fits ρ r c) (Err e)
   said_otherwise n d =
-      let x_says : tag (store_of mem r) ≡ x.tag = ap tag (says mem r x_at refl) ∙ tag_of x x_known in
+      let x_says : tag (store_of mem r) ≡ x.tag = rw x_is (says_tag ready.sound r) in
       let c_tag : tag c ≡ w.tag = ap tag (sym w_says) ∙ tag_of w w_known.1 in
       record { same_length = refl; says = λ ρ. clash_said r c (rw x_says (x_built n)) (rw c_tag w_known.0) (λ e. d (sym x_says ∙ e ∙ c_tag)) }
 

@@ -121,5 +121,22 @@ tag_of w = go w.tag
     go (suc (suc (suc (suc (suc zero))))) h = refl
     go (suc (suc (suc (suc (suc (suc t)))))) h = absurd (omega arith)
 
+pub says_tag : {mem : List ℕ} → Sound mem → (i : ℕ) → tag (store_of mem i) ≡ (words_at mem i).tag
+unfolding store_of
+says_tag {mem} s i = tag_of (words_at mem i) (s.allowed i).tag_known
+
+-- A base type says no more than its tag.
+pub base_says : (c d : Words) → 1 < c.tag → c.tag < 5 → c.tag ≡ d.tag → cell_in c ≡ cell_in d
+base_says c d h k e = subst (λ t. cell_in c ≡ get_or (Free ∷ Link d.a ∷ UnitType ∷ BoolType ∷ IntType ∷ Arrow d.a d.b ∷ []) t Free) e (go c.tag h k)
+  where
+    go : (t : ℕ) → 1 < t → t < 5 →
+        get_or (Free ∷ Link c.a ∷ UnitType ∷ BoolType ∷ IntType ∷ Arrow c.a c.b ∷ []) t Free ≡ get_or (Free ∷ Link d.a ∷ UnitType ∷ BoolType ∷ IntType ∷ Arrow d.a d.b ∷ []) t Free
+    go zero h k = absurd (omega arith)
+    go (suc zero) h k = absurd (omega arith)
+    go (suc (suc zero)) h k = refl
+    go (suc (suc (suc zero))) h k = refl
+    go (suc (suc (suc (suc zero)))) h k = refl
+    go (suc (suc (suc (suc (suc t))))) h k = absurd (omega arith)
+
 pub above_one : {t : ℕ} → t ≢ 0 → t ≢ 1 → 1 < t
 above_one n m = omega arith

@@ -75,7 +75,7 @@ module _ {words : List ℕ} (one : check_of words ≡ Err WrongCount) where
   infer_refused i = infers_to_once i (refused_infer (refl, refl))
 
   refused_run : {fuel r : ℕ} → r ≡ packed 1 0 → RunsTo words fuel r
-  refused_run number = record { ran = refused_as WrongCount; bindings_after = _; frames_after = _; runs = Machine.refused_run (sym one) refl; number = number }
+  refused_run number = record { ran = refused_as 1 0; bindings_after = _; frames_after = _; runs = Machine.refused_run (sym one) refl; number = number }
 
   run_refused : {fuel r : ℕ} → RunsTo words fuel r → r ≡ packed 1 0
   run_refused i = runs_to_once i (refused_run refl)
