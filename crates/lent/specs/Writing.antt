@@ -8,22 +8,32 @@ use Rattle.lent.specs.Bytes.{overwrite}
 use Rattle.lent.specs.Written.{Written}
 use Rattle.lent.specs.WrittenLaws.{written_one, written_past, written_length, written_then}
 
--- ---- In the place of the first elements
+-- ---- From any place on
 
 -- The first i of the new are written.
-module _ (new : List ℕ) {old now : List ℕ} {i : ℕ} (so_far : Written old 0 (take i new) now i) where
-  pub overwrites : {x : ℕ} → i < length new → i < length old → x ≡ get_or new i 0 → Written old 0 (take (i + 1) new) (set now i x) (i + 1)
-  overwrites {x} more inside is =
-      let taken : take (i + 1) new ≡ take i new ++ x ∷ [] = rw (add-one, is) (take-suc new i 0 more) in
-      rw taken (written_then so_far (written_one now x (omega (arith, written_length so_far))))
+module _ (new : List ℕ) (i : ℕ) {old now : List ℕ} {at next : ℕ} (so_far : Written old at (take i new) now next) where
+  pub writing_more : {now' : List ℕ} {next' : ℕ} → i < length new → Written now next (get_or new i 0 ∷ []) now' next' → Written old at (take (i + 1) new) now' next'
+  writing_more more one = rw (add-one, take-suc new i 0 more) (written_then so_far one)
+
+  pub writing_all : length new ≤ i → Written old at new now next
+  writing_all all = rw (take_all i new all) at so_far
 
   -- No other fits.
+  pub writing_full : length now ≤ next → Written old at new now next
+  writing_full full = rw (take-append-drop i new) at (written_then so_far (written_past now (drop i new) full))
+
+-- ---- In the place of the first elements
+
+module _ (new : List ℕ) {old now : List ℕ} {i : ℕ} (so_far : Written old 0 (take i new) now i) where
+  pub overwrites : {x : ℕ} → i < length new → i < length old → x ≡ get_or new i 0 → Written old 0 (take (i + 1) new) (set now i x) (i + 1)
+  overwrites {x} more inside is = writing_more new i so_far more (rw (← is) (written_one now x (omega (arith, written_length so_far))))
+
   pub overwritten : min (length new) (length old) ≤ i → now ≡ overwrite new old
   overwritten all = go (dec_le (length new) i)
     where
       go : Dec (length new ≤ i) → now ≡ overwrite new old
-      go (yes every) = rw (take_all i new every) at so_far.is
-      go (no not_every) = rw (take-append-drop i new) at ((written_then so_far (written_past now (drop i new) (omega (arith, written_length so_far)))).is)
+      go (yes every) = (writing_all new i so_far every).is
+      go (no not_every) = (writing_full new i so_far (omega (arith, written_length so_far))).is
 
 -- ---- As a whole
 

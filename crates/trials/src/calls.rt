@@ -1,9 +1,6 @@
 // The three calls, each with its line.
 use crate::stores::{fill, sum};
 
-// No slice that is lent is longer.
-const MOST: usize = 33000;
-
 // A call with what it is lent beside the table: fuel, and lengths of slices.
 #[derive(Clone, Copy)]
 pub(crate) enum Call {
@@ -37,10 +34,13 @@ fn with_slices<P: Print, F: FnOnce(&mut [u32], &mut [u32])>(
 ) -> Option<()>
     requires { F.IsAlwaysCallable call }
 {
-    let mut first_room = [0u32; MOST];
-    let mut second_room = [0u32; MOST];
-    let first = first_room.get_mut(..first)?;
-    let second = second_room.get_mut(..second)?;
+    if 33000 < first || 33000 < second {
+        return None;
+    }
+    let mut first_room = [0u32; 33000];
+    let mut second_room = [0u32; 33000];
+    let first = &mut first_room[..first];
+    let second = &mut second_room[..second];
     fill(first, 1);
     fill(second, 2);
     call(first, second);

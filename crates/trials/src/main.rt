@@ -6,13 +6,17 @@
 mod calls;
 mod stores;
 
+ghost use Rattle.std.specs.Prelude.{◌≤◌, length};
+
 use calls::Call;
 use std::io::Read;
 
 // Reads a trial's table into the slice that it fills.
-fn read_table<R: Read>(from: &mut R, words: &mut [u32]) -> Option<()> {
+fn read_table<R: Read>(from: &mut R, words: &mut [u32]) -> Option<()>
+    requires { length words.old ≤ 2100 }
+{
     let mut bytes = [0u8; 8400];
-    let table = bytes.get_mut(..4 * words.len())?;
+    let table = &mut bytes[..4 * words.len()];
     from.read_exact(table).ok()?;
     lent::read_words(table, words);
     Some(())
@@ -25,9 +29,12 @@ fn one_trial<R: Read, P: Print>(from: &mut R, to: &P) -> Option<()> {
     let mut numbers = [0u32; 5];
     lent::read_words(&head, &mut numbers);
     let [which, first, second, third, count] = numbers;
+    if 2100 < count {
+        return None;
+    }
     let mut words = [0u32; 2100];
     // `as`: the library has no `From` from `u32` to `usize`.
-    let table = words.get_mut(..count as usize)?;
+    let table = &mut words[..count as usize];
     read_table(from, table)?;
     Call::of(which, first, second, third)?.make(to, table)
 }

@@ -1,5 +1,6 @@
 -- `decimal::text::Text::number` meets its contract.
-use Rattle.std.proofs.Common.{arith, ◌∙◌}
+use Rattle.std.proofs.Common.{arith, ap, ◌∙◌}
+use Rattle.decimal.specs.Decimal.{decimal}
 use Rattle.decimal.specs.DecimalLaws.{printed_digits}
 use Rattle.decimal.specs.TextLaws.{puts_as}
 use Rattle.decimal.proofs.text.Text.number.Goals as goal
@@ -8,4 +9,4 @@ pub returns : goal.returns
 returns c =
     let text = c.as_bytes.ensures.value in
     let shown = c.format.ensures in
-    puts_as c.bytes.ensures (text ∙ shown.text ∙ printed_digits c.args.n (omega arith)) (rw text shown.fits)
+    puts_as c.bytes.ensures (text ∙ shown.text ∙ printed_digits _ (omega arith) ∙ ap decimal (omega arith)) (rw text shown.fits)
