@@ -11,15 +11,15 @@ use Rattle.lent.specs.WrittenLaws.{written_one, written_past, written_length, wr
 -- ---- From any place on
 
 -- The first i of the new are written.
-module _ (new : List ℕ) (i : ℕ) {old now : List ℕ} {at next : ℕ} (so_far : Written old at (take i new) now next) where
-  pub writing_more : {now' : List ℕ} {next' : ℕ} → i < length new → Written now next (get_or new i 0 ∷ []) now' next' → Written old at (take (i + 1) new) now' next'
+module _ (new : List ℕ) (i : ℕ) {before now : List ℕ} {at next : ℕ} (so_far : Written before at (take i new) now next) where
+  pub writing_more : {now' : List ℕ} {next' : ℕ} → i < length new → Written now next (get_or new i 0 ∷ []) now' next' → Written before at (take (i + 1) new) now' next'
   writing_more more one = rw (add-one, take-suc new i 0 more) (written_then so_far one)
 
-  pub writing_all : length new ≤ i → Written old at new now next
+  pub writing_all : length new ≤ i → Written before at new now next
   writing_all all = rw (take_all i new all) at so_far
 
   -- No other fits.
-  pub writing_full : length now ≤ next → Written old at new now next
+  pub writing_full : length now ≤ next → Written before at new now next
   writing_full full = rw (take-append-drop i new) at (written_then so_far (written_past now (drop i new) full))
 
 -- ---- In the place of the first elements

@@ -5,6 +5,7 @@ use Rattle.decimal.specs.DecimalLaws.{printed_digits}
 use Rattle.decimal.specs.TextLaws.{puts_as}
 use Rattle.decimal.proofs.text.Text.number.Goals as goal
 
+-- What is printed is n by its value, however the code writes it.
 pub returns : goal.returns
 returns c =
     let text = c.as_bytes.ensures.value in
