@@ -40,13 +40,15 @@ impl Text<'_> {
         self.bytes(digits.format(n).as_bytes());
     }
 
-    // The integer of a pattern has a sign and ten digits at most.
+    // The integer of a pattern has a sign and ten digits at most. Its digits are put as those of every number are.
     pub fn integer(&mut self, p: u32)
         ensures { PutsWithin 11 self.old (signed_decimal (to_z w32 p)) self.new }
     {
-        let z = p.cast_signed();
-        let mut digits = Buffer::new();
-        self.bytes(digits.format(z).as_bytes());
+        if p < 2147483648 {
+            return self.number(p);
+        }
+        self.byte(b'-');
+        self.number(4294967295 - p + 1);
     }
 
     // A space and a number, for each.
